@@ -1,5 +1,6 @@
 -- Counts and places, one place further.
-use Rattle.msrp_plan.proofs.Common.{◌≡◌, ◌∙◌, ℕ, ◌+◌, ◌<◌, ◌≤◌, Bool, true, false, List, [], ◌∷◌, Option, None, Some, ap, arith, sym, refl, add-one, drop, ◌&&◌, ◌==◌, length, nat_le, not, if◌then◌else◌, le-leb}
+use Rattle.std.proofs.Common.{◌≡◌, ◌∙◌, ◌+◌, ◌<◌, ◌≤◌, ◌∷◌, ◌&&◌, ◌==◌, if◌then◌else◌}
+use Rattle.msrp_plan.proofs.Common.{ℕ, Bool, true, false, List, [], Option, None, Some, ap, arith, sym, refl, add-one, drop, length, nat_le, not, le-leb}
 use Rattle.std.specs.Option.{IfSome}
 use Rattle.csv.specs.Reading.{strip_bom}
 use Rattle.msrp_text.specs.Reading.{record_at}

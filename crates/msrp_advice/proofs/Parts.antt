@@ -1,5 +1,6 @@
 -- Texts that are written part by part.
-use Rattle.msrp_plan.proofs.Common.{◌≡◌, ◌∙◌, ℕ, ◌+◌, Bool, true, List, [], ◌∷◌, Option, ap, arith, sym, ◌||◌, flat_map, list_any, range_with_len, sum_by, or-false, list_any-append, sum_by-append, sum_by-cons, Wrote, flat_more, range_more, wrote-more}
+use Rattle.std.proofs.Common.{◌≡◌, ◌∙◌, ◌+◌, ◌∷◌, ◌||◌}
+use Rattle.msrp_plan.proofs.Common.{ℕ, Bool, true, List, [], Option, ap, arith, sym, flat_map, list_any, range_with_len, sum_by, or-false, list_any-append, sum_by-append, sum_by-cons, Wrote, flat_more, range_more, wrote-more}
 use Rattle.msrp_plan.specs.declared.bytes.Sink.{Sink}
 use Rattle.msrp_text.proofs.Written.{wrote-as}
 use Rattle.msrp_advice.specs.Warnings.{warn_if}

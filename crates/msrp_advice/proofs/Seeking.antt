@@ -1,5 +1,6 @@
 -- The last place that passes a test, and what is left of records.
-use Rattle.msrp_plan.proofs.Common.{◌≡◌, ◌∙◌, ℕ, ◌+◌, ◌<◌, Bool, true, false, List, [], Option, None, Some, ap, arith, sym, subst, refl, add-one, drop, ◌||◌, length, map, nat_lt, slice_index_or, if◌then◌else◌, list_any, drop_more, get_or-map}
+use Rattle.std.proofs.Common.{◌≡◌, ◌∙◌, ◌+◌, ◌<◌, ◌||◌, if◌then◌else◌}
+use Rattle.msrp_plan.proofs.Common.{ℕ, Bool, true, false, List, [], Option, None, Some, ap, arith, sym, subst, refl, add-one, drop, length, map, nat_lt, slice_index_or, list_any, drop_more, get_or-map}
 use Rattle.std.specs.Option.{IfSome}
 use Rattle.csv.specs.Records.{Row, fields_of}
 use Rattle.msrp_text.specs.Reading.{record_at}

@@ -1,5 +1,6 @@
 -- Which advice fits a refused record: by the fault, the record's number and its fields. A record without fields is the end of the text.
-use Rattle.msrp_plan.specs.Common.{ℕ, Bool, false, ◌==◌, ◌&&◌, ◌||◌, ◌-◌, List, [], length, Option, Some, None, codes, nat_lt, nat_le, not, slice_index, if◌then◌else◌, list_any, is_within}
+use Rattle.std.specs.Prelude.{◌==◌, ◌&&◌, ◌||◌, ◌-◌, if◌then◌else◌}
+use Rattle.msrp_plan.specs.Common.{ℕ, Bool, false, List, [], length, Option, Some, None, codes, nat_lt, nat_le, not, slice_index, list_any, is_within}
 use Rattle.msrp_plan.specs.declared.faults.PlanFault.{PlanFault}
 use Rattle.std.specs.Char.{is_ascii_uppercase}
 use Rattle.csv.specs.Records.{field_at}

@@ -1,5 +1,6 @@
 -- The earlier record that a refusal concerns, by its place among the records before the refused one, counted from 0.
-use Rattle.msrp_plan.specs.Common.{ℕ, zero, suc, Bool, false, ◌==◌, ◌&&◌, ◌+◌, ◌-◌, ◌/◌, List, [], length, Option, Some, None, codes, min, nat_lt, unwrap_or, if◌then◌else◌}
+use Rattle.std.specs.Prelude.{◌==◌, ◌&&◌, ◌+◌, ◌-◌, ◌/◌, if◌then◌else◌}
+use Rattle.msrp_plan.specs.Common.{ℕ, zero, suc, Bool, false, List, [], length, Option, Some, None, codes, min, nat_lt, unwrap_or}
 use Rattle.csv.specs.Records.{field_at}
 use Rattle.msrp_text.specs.Fields.{has_word}
 use Rattle.msrp_text.specs.Reading.{number_told, record_at}

@@ -1,5 +1,6 @@
 -- The line of a text in which a record begins, counted from 1, where it is known.
-use Rattle.msrp_plan.specs.Common.{ℕ, zero, suc, Bool, not, ◌+◌, ◌-◌, ◌==◌, ◌&&◌, ◌||◌, List, length, Option, nat_le, nat_lt, option_map, slice_index, if◌then◌else◌}
+use Rattle.std.specs.Prelude.{◌+◌, ◌-◌, ◌==◌, ◌&&◌, ◌||◌, if◌then◌else◌}
+use Rattle.msrp_plan.specs.Common.{ℕ, zero, suc, Bool, not, List, length, Option, nat_le, nat_lt, option_map, slice_index}
 use Rattle.csv.specs.Reading.{strip_bom}
 use Rattle.msrp_advice.specs.Nested.{last_place}
 

@@ -1,5 +1,6 @@
 -- A lock of a global resource while a global one is held, among the first records.
-use Rattle.msrp_plan.specs.Common.{ℕ, zero, suc, Bool, true, false, not, ◌==◌, ◌&&◌, List, Option, Some, None, if◌then◌else◌, take}
+use Rattle.std.specs.Prelude.{◌==◌, ◌&&◌, if◌then◌else◌}
+use Rattle.msrp_plan.specs.Common.{ℕ, zero, suc, Bool, true, false, not, List, Option, Some, None, take}
 use Rattle.msrp_text.specs.Reading.{number_told, record_at}
 use Rattle.msrp_advice.specs.Places.{is_task}
 use Rattle.msrp_advice.specs.Records.{is_left, is_lock, is_same}

@@ -1,5 +1,6 @@
 -- Which field of a refused record is wrong, counted from 0.
-use Rattle.msrp_plan.specs.Common.{ℕ, Bool, ◌||◌, List, Option, Some, None, codes, is_none, if◌then◌else◌}
+use Rattle.std.specs.Prelude.{◌||◌, if◌then◌else◌}
+use Rattle.msrp_plan.specs.Common.{ℕ, Bool, List, Option, Some, None, codes, is_none}
 use Rattle.csv.specs.Records.{field_at}
 use Rattle.msrp_text.specs.Fields.{has_word, number_at}
 use Rattle.msrp_advice.specs.Choosing.{is_padded}

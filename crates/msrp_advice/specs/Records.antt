@@ -1,5 +1,6 @@
 -- What a record of a plan is, beside others.
-use Rattle.msrp_plan.specs.Common.{ℕ, Bool, not, ◌&&◌, ◌+◌, List, codes, drop, list_any}
+use Rattle.std.specs.Prelude.{◌&&◌, ◌+◌}
+use Rattle.msrp_plan.specs.Common.{ℕ, Bool, not, List, codes, drop, list_any}
 use Rattle.msrp_text.specs.Fields.{has_word, name_at}
 use Rattle.msrp_text.specs.Reading.{record_at}
 

@@ -1,5 +1,6 @@
 -- What is written of a refused record: its code and number with a sentence, the record as it stands, and the earlier one that it concerns.
-use Rattle.msrp_plan.specs.Common.{ℕ, List, [], ◌∷◌, ◌+◌, ◌++◌, ◌==◌, Option, Some, None, length, codes, decimal, min, slice_index, if◌then◌else◌, flat_map, range_with_len, code_of, most_cores}
+use Rattle.std.specs.Prelude.{◌∷◌, ◌+◌, ◌++◌, ◌==◌, if◌then◌else◌}
+use Rattle.msrp_plan.specs.Common.{ℕ, List, [], Option, Some, None, length, codes, decimal, min, slice_index, flat_map, range_with_len, code_of, most_cores}
 use Rattle.msrp_plan.specs.declared.faults.PlanFault.{PlanFault}
 use Rattle.msrp_text.specs.Reading.{record_at}
 use Rattle.msrp_advice.specs.Choosing.{advice_of}

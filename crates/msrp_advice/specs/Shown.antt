@@ -1,5 +1,6 @@
 -- A record of a text as it is shown.
-use Rattle.msrp_plan.specs.Common.{ℕ, List, [], ◌∷◌, ◌+◌, ◌++◌, ◌==◌, Option, Some, None, length, codes, decimal, min, slice_index, unwrap_or, if◌then◌else◌, flat_map, range_with_len, is_within}
+use Rattle.std.specs.Prelude.{◌∷◌, ◌+◌, ◌++◌, ◌==◌, if◌then◌else◌}
+use Rattle.msrp_plan.specs.Common.{ℕ, List, [], Option, Some, None, length, codes, decimal, min, slice_index, unwrap_or, flat_map, range_with_len, is_within}
 use Rattle.csv.specs.Records.{field_at}
 
 -- the most fields of a record that are shown, and the most bytes of a field

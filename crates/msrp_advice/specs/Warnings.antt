@@ -1,5 +1,6 @@
 -- What is odd in an accepted plan, in words.
-use Rattle.msrp_plan.specs.Common.{ℕ, Bool, List, [], ◌++◌, ◌*◌, ◌==◌, ◌&&◌, length, codes, decimal, nat_le, nat_lt, not, slice_index_or, if◌then◌else◌, flat_map, list_any, range_with_len, sum_by, job_at, jobs_of, top, PlanModel, key, task_at}
+use Rattle.std.specs.Prelude.{◌++◌, ◌*◌, ◌==◌, ◌&&◌, if◌then◌else◌}
+use Rattle.msrp_plan.specs.Common.{ℕ, Bool, List, [], length, codes, decimal, nat_le, nat_lt, not, slice_index_or, flat_map, list_any, range_with_len, sum_by, job_at, jobs_of, top, PlanModel, key, task_at}
 use Rattle.msrp_levels.specs.Users.{users}
 
 -- a text, where there is reason for it

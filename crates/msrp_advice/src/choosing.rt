@@ -1,5 +1,6 @@
 //! Which advice fits a refused record.
-ghost use Rattle.msrp_plan.specs.Common.{◌≡◌, option_map, list_any};
+ghost use Rattle.std.specs.Prelude.{◌≡◌};
+ghost use Rattle.msrp_plan.specs.Common.{option_map, list_any};
 ghost use Rattle.std.specs.Char.{is_ascii_uppercase};
 ghost use Rattle.csv.specs.Records.{fields_of};
 ghost use Rattle.msrp_text.specs.Reading.{is_op_word};

@@ -1,5 +1,6 @@
 //! The line of a text in which a record begins, counted from 1, where it is known.
-ghost use Rattle.msrp_plan.specs.Common.{◌≡◌, ◌≤◌, ◌<◌, ◌+◌, ◌-◌, ◌^◌, ◌==◌, ◌&&◌, Some, length, option_map, if◌then◌else◌};
+ghost use Rattle.std.specs.Prelude.{◌≡◌, ◌≤◌, ◌<◌, ◌+◌, ◌-◌, ◌^◌, ◌==◌, ◌&&◌, if◌then◌else◌};
+ghost use Rattle.msrp_plan.specs.Common.{Some, length, option_map};
 ghost use Rattle.std.specs.Option.{IfSome};
 ghost use Rattle.csv.specs.Reading.{strip_bom};
 ghost use Rattle.msrp_advice.specs.Lines as spec;

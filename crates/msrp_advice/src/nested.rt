@@ -1,5 +1,6 @@
 //! A lock of a global resource while a global one is held, among the first records.
-ghost use Rattle.msrp_plan.specs.Common.{◌≡◌, ◌<◌, ◌≤◌, ◌==◌, ◌&&◌, length, map, not, true, if◌then◌else◌};
+ghost use Rattle.std.specs.Prelude.{◌≡◌, ◌<◌, ◌≤◌, ◌==◌, ◌&&◌, if◌then◌else◌};
+ghost use Rattle.msrp_plan.specs.Common.{length, map, not, true};
 ghost use Rattle.std.specs.Option.{IfSome};
 ghost use Rattle.csv.specs.Records.{fields_of};
 ghost use Rattle.msrp_text.specs.Reading.{record_at};

@@ -1,5 +1,5 @@
 //! Which field of a refused record is wrong, counted from 0.
-ghost use Rattle.msrp_plan.specs.Common.{◌≡◌, ◌<◌};
+ghost use Rattle.std.specs.Prelude.{◌≡◌, ◌<◌};
 ghost use Rattle.std.specs.Option.{IfSome};
 ghost use Rattle.csv.specs.Records.{fields_of};
 ghost use Rattle.msrp_advice.specs.Places as spec;

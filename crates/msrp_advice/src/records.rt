@@ -1,5 +1,6 @@
 //! What a record of a plan is, beside others.
-ghost use Rattle.msrp_plan.specs.Common.{◌≡◌, ◌<◌, ◌+◌, length, map, drop, list_any};
+ghost use Rattle.std.specs.Prelude.{◌≡◌, ◌<◌, ◌+◌};
+ghost use Rattle.msrp_plan.specs.Common.{length, map, drop, list_any};
 ghost use Rattle.csv.specs.Records.{fields_of};
 ghost use Rattle.msrp_text.specs.Reading.{number_told, record_at};
 ghost use Rattle.msrp_advice.specs.Records as spec;

@@ -1,5 +1,6 @@
 //! What is written of a refused record.
-ghost use Rattle.msrp_plan.specs.Common.{◌≡◌, ◌<◌, ◌≤◌, length, map, flat_map, range_with_len, Wrote, most_cores};
+ghost use Rattle.std.specs.Prelude.{◌≡◌, ◌<◌, ◌≤◌};
+ghost use Rattle.msrp_plan.specs.Common.{length, map, flat_map, range_with_len, Wrote, most_cores};
 ghost use Rattle.std.specs.Option.{IfSome};
 ghost use Rattle.csv.specs.Records.{fields_of};
 ghost use Rattle.msrp_advice.specs.Refusals.{core_text, cores_text, earlier_line, filled, line_part, mark_text, record_line, refusal_text, said_of};

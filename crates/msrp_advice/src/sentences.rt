@@ -1,5 +1,5 @@
 //! The sentences.
-ghost use Rattle.msrp_plan.specs.Common.{◌≡◌};
+ghost use Rattle.std.specs.Prelude.{◌≡◌};
 ghost use Rattle.msrp_advice.specs.Sentences.{sentence};
 
 use crate::advice::Advice;

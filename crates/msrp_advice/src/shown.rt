@@ -1,5 +1,6 @@
 //! A record of a text as it is shown.
-ghost use Rattle.msrp_plan.specs.Common.{◌≡◌, ◌<◌, [], length, min, option_map, unwrap_or, Wrote};
+ghost use Rattle.std.specs.Prelude.{◌≡◌, ◌<◌};
+ghost use Rattle.msrp_plan.specs.Common.{[], length, min, option_map, unwrap_or, Wrote};
 ghost use Rattle.std.specs.Option.{IfSome};
 ghost use Rattle.csv.specs.Records.{fields_of};
 ghost use Rattle.msrp_advice.specs.Shown as spec;

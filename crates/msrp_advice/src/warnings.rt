@@ -1,5 +1,6 @@
 //! What is odd in an accepted plan.
-ghost use Rattle.msrp_plan.specs.Common.{◌≡◌, ◌<◌, ◌||◌, length, list_any, range_with_len, Wrote};
+ghost use Rattle.std.specs.Prelude.{◌≡◌, ◌<◌, ◌||◌};
+ghost use Rattle.msrp_plan.specs.Common.{length, list_any, range_with_len, Wrote};
 ghost use Rattle.msrp_advice.specs.Warnings.{accepted_text, core_units, core_warning, core_warnings, deadline_warning, each, has_deadline, load_warning, no_job_warning, resource_warning, task_warnings, ticks_warning, units_of};
 
 use crate::shown::write_number;

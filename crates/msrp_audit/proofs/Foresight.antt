@@ -1,5 +1,6 @@
 -- A row against the legal one of its core: it breaks the rules that the comparison names.
-use Rattle.msrp_plan.proofs.Common.{◌≡◌, ℕ, Bool, true, false, cond, not, ◌&&◌, ◌||◌, ◌==◌, List, Option, Some, None, is_some, length, refl, ap, sym, ◌∙◌, subst, eqb-true, list_any, option_or, true≢false, and-false, and_parts, not-true, PlanModel, has_shape, is_queue, may_carry, carries_its_ahead, is_queued, is_job, choice, same_res, is_global_unit, allows, is_idle, does_unit, does_next, fifo, replies, counts, is_first, is_reply_of, IsLegal, is_in_turn, is_of_core, is_chosen, is_next_action, is_fifo_reply, replies_on, same_choice, broken, same_kind_is, IsTurn, same_res_is, same_choice_is, due, legal_turn, legal_due, idle_res}
+use Rattle.std.proofs.Common.{◌≡◌, ◌&&◌, ◌||◌, ◌==◌, ◌∙◌}
+use Rattle.msrp_plan.proofs.Common.{ℕ, Bool, true, false, cond, not, List, Option, Some, None, is_some, length, refl, ap, sym, subst, eqb-true, list_any, option_or, true≢false, and-false, and_parts, not-true, PlanModel, has_shape, is_queue, may_carry, carries_its_ahead, is_queued, is_job, choice, same_res, is_global_unit, allows, is_idle, does_unit, does_next, fifo, replies, counts, is_first, is_reply_of, IsLegal, is_in_turn, is_of_core, is_chosen, is_next_action, is_fifo_reply, replies_on, same_choice, broken, same_kind_is, IsTurn, same_res_is, same_choice_is, due, legal_turn, legal_due, idle_res}
 use Rattle.msrp_plan.specs.declared.ids.JobId.{JobId}
 use Rattle.msrp_plan.specs.declared.ids.ResId.{ResId}
 use Rattle.msrp_plan.specs.declared.faults.Rule.{Rule}

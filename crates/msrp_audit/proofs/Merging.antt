@@ -1,6 +1,6 @@
 -- The earliest of the pieces' answers is the first fault of the rows.
-use Rattle.msrp_plan.proofs.Common.{append_assoc, min, map, Ok, IfOk, Result, get_or, ◌⊎◌, ◌≡◌, ℕ, zero, suc, ◌+◌, ◌-◌, ◌*◌, ◌/◌, ◌%◌, ◌<◌, ◌≤◌, ◌==◌, ◌&&◌, nat_lt, Bool, true, false, cond, List, [], ◌∷◌, ◌++◌, Option, Some, None, IfSome, fold, refl, ap, sym, ◌∙◌, subst, arith, length, length-append, take, drop, inl, inr, eq-eqb, eqb-true, option_or, AllByRecursion, range_with_len, true≢false, mul-le-mul_left, cases_Bool, cases_lt, cases_eq, lt-ltb, le-ltb, le-leb, div-add-mod', div_below, mod_below, take_at, get_or_at, take_all, take-append-drop, length-take-le, PlanModel, is_global, is_of, is_on, fifo, replies, counts, IsLegal, IsRunStart, EachAfter, is_in_turn, is_of_core, is_chosen, is_next_action, is_fifo_reply, replies_on, broken, refused, fault_or, fault_in, missing, verdict, IsPlan, due, turn_of, unbroken_is_legal, start_before, start_last, early_is, fault_stays, same_Some, undeclared_local}
-use Rattle.std.proofs.Common.{MatchResult}
+use Rattle.msrp_plan.proofs.Common.{append_assoc, min, map, Ok, IfOk, Result, get_or, ℕ, zero, suc, nat_lt, Bool, true, false, cond, List, [], Option, Some, None, IfSome, fold, refl, ap, sym, subst, arith, length, length-append, take, drop, inl, inr, eq-eqb, eqb-true, option_or, AllByRecursion, range_with_len, true≢false, mul-le-mul_left, cases_Bool, cases_lt, cases_eq, lt-ltb, le-ltb, le-leb, div-add-mod', div_below, mod_below, take_at, get_or_at, take_all, take-append-drop, length-take-le, PlanModel, is_global, is_of, is_on, fifo, replies, counts, IsLegal, IsRunStart, EachAfter, is_in_turn, is_of_core, is_chosen, is_next_action, is_fifo_reply, replies_on, broken, refused, fault_or, fault_in, missing, verdict, IsPlan, due, turn_of, unbroken_is_legal, start_before, start_last, early_is, fault_stays, same_Some, undeclared_local}
+use Rattle.std.proofs.Common.{◌⊎◌, ◌≡◌, ◌+◌, ◌-◌, ◌*◌, ◌/◌, ◌%◌, ◌<◌, ◌≤◌, ◌==◌, ◌&&◌, ◌∷◌, ◌++◌, ◌∙◌, MatchResult}
 use Rattle.std.specs.List.{AllZip}
 use Rattle.std.proofs.lemmas.List.{length-drop}
 use Rattle.msrp_plan.specs.Faults.{IsBroken}

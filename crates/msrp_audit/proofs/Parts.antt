@@ -1,5 +1,6 @@
 -- The turns of a part of the ticks.
-use Rattle.msrp_plan.proofs.Common.{◌≡◌, ℕ, ◌+◌, ◌*◌, ◌<◌, ◌≤◌, ◌&&◌, nat_lt, nat_le, Bool, true, false, cond, min, List, Some, None, refl, ap, sym, ◌∙◌, arith, length, take, get_or, inl, inr, and-false, cases_lt, lt-ltb, le-ltb, le-leb, lt-leb, length-take-le, PlanModel, IsRunStart, is_in_turn}
+use Rattle.std.proofs.Common.{◌≡◌, ◌+◌, ◌*◌, ◌<◌, ◌≤◌, ◌&&◌, ◌∙◌}
+use Rattle.msrp_plan.proofs.Common.{ℕ, nat_lt, nat_le, Bool, true, false, cond, min, List, Some, None, refl, ap, sym, arith, length, take, get_or, inl, inr, and-false, cases_lt, lt-ltb, le-ltb, le-leb, lt-leb, length-take-le, PlanModel, IsRunStart, is_in_turn}
 use Rattle.msrp_plan.specs.declared.faults.Rule.TheVariants.{A1}
 use Rattle.msrp_plan.specs.declared.rows.Row.{Row}
 use Rattle.msrp_audit.specs.Inside.Pieces.{part_size, is_in_part, broken_turn, TellsFirst}

@@ -1,5 +1,6 @@
 -- What the rows on one resource tell of its queue, and whether they have its reply.
-use Rattle.msrp_plan.proofs.Common.{◌≡◌, ℕ, ◌+◌, ◌<◌, ◌&&◌, eqb-true, Bool, true, false, cond, List, [], ◌∷◌, ◌++◌, Option, Some, None, refl, ap, sym, ◌∙◌, arith, length, take, append-nil, get_or, filter_map, cons_option, and-false, sum_by_push, filter_map-append, PlanModel, is_global, is_on, is_request, is_release, requester, is_release_of, fifo, is_reply_of, IsRunStart, is_fifo_reply, replies_on, IsPlan}
+use Rattle.std.proofs.Common.{◌≡◌, ◌+◌, ◌<◌, ◌&&◌, ◌∷◌, ◌++◌, ◌∙◌}
+use Rattle.msrp_plan.proofs.Common.{ℕ, eqb-true, Bool, true, false, cond, List, [], Option, Some, None, refl, ap, sym, arith, length, take, append-nil, get_or, filter_map, cons_option, and-false, sum_by_push, filter_map-append, PlanModel, is_global, is_on, is_request, is_release, requester, is_release_of, fifo, is_reply_of, IsRunStart, is_fifo_reply, replies_on, IsPlan}
 use Rattle.std.specs.List.{count_by}
 use Rattle.msrp_plan.specs.Requests.{HasTaken}
 use Rattle.msrp_plan.specs.declared.faults.Rule.TheVariants.{A5}

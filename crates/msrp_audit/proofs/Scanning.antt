@@ -1,5 +1,6 @@
 -- A piece of the audit goes over the rows from the first on, and tests each: what its answer tells.
-use Rattle.msrp_plan.proofs.Common.{◌≡◌, ℕ, zero, suc, ◌+◌, ◌<◌, ◌≤◌, cond, List, [], ◌∷◌, ◌++◌, Option, Some, None, ap, sym, ◌∙◌, subst, arith, length, length-append, take, drop, get_or, refl, inl, inr, eq-eqb, cases_lt, take_at, take_more, take-append-le, take-append-drop, get_or_at, PlanModel, IsLegal, IsRunStart, not_equal, start_before, start_last}
+use Rattle.std.proofs.Common.{◌≡◌, ◌+◌, ◌<◌, ◌≤◌, ◌∷◌, ◌++◌, ◌∙◌}
+use Rattle.msrp_plan.proofs.Common.{ℕ, zero, suc, cond, List, [], Option, Some, None, ap, sym, subst, arith, length, length-append, take, drop, get_or, refl, inl, inr, eq-eqb, cases_lt, take_at, take_more, take-append-le, take-append-drop, get_or_at, PlanModel, IsLegal, IsRunStart, not_equal, start_before, start_last}
 use Rattle.msrp_plan.specs.declared.faults.Rule.{Rule}
 use Rattle.msrp_plan.specs.declared.rows.Row.{Row}
 use Rattle.msrp_audit.specs.Inside.Pieces.{TellsFirst}

@@ -1,6 +1,6 @@
 -- How many turns each core had, by the number of rows and by the tick of its last one.
-use Rattle.msrp_plan.proofs.Common.{◌≡◌, ℕ, ◌+◌, ◌*◌, ◌/◌, ◌<◌, ◌≤◌, ◌==◌, Bool, true, false, List, [], ◌∷◌, ◌++◌, refl, ap, sym, ◌∙◌, subst, arith, length, length-append, eqb-true, take, replicate, get_or, set, inl, inr, cases_eq, get_or-set_at, div-mul-add, get_or-replicate, length-take-le, PlanModel, log_of, IsLegal, IsRunStart, EachAfter, had_turn, IsPlan, along, log_own, log_other, start_before, start_last}
-use Rattle.std.proofs.Common.{get_or-set_other}
+use Rattle.msrp_plan.proofs.Common.{ℕ, Bool, true, false, List, [], refl, ap, sym, subst, arith, length, length-append, eqb-true, take, replicate, get_or, set, inl, inr, cases_eq, get_or-set_at, div-mul-add, get_or-replicate, length-take-le, PlanModel, log_of, IsLegal, IsRunStart, EachAfter, had_turn, IsPlan, along, log_own, log_other, start_before, start_last}
+use Rattle.std.proofs.Common.{◌≡◌, ◌+◌, ◌*◌, ◌/◌, ◌<◌, ◌≤◌, ◌==◌, ◌∷◌, ◌++◌, ◌∙◌, get_or-set_other}
 use Rattle.msrp_plan.specs.declared.rows.Row.{Row}
 use Rattle.msrp_plan.proofs.Runs.CoreRuns.{reached_tick}
 use Rattle.msrp_plan.proofs.Runs.Ticks.{IsTick, AnyTick, rows_in, any_both, tick_is, tick_none, fresh, any_tick_push}

@@ -1,8 +1,8 @@
 -- An auditor, and the rows that it was fed.
-use Rattle.msrp_plan.specs.Common.{ℕ, true, false, List, [], ◌∷◌, ◌++◌, Bool, not, nat_lt, ◌&&◌, ◌/◌, Option, Some, None, Ok, Err, length, slice_get, ◌≡◌, ◌<◌, ◌≤◌, ◌+◌, ◌-◌, ◌*◌, ⊤, IsSomeAnd, PlanModel, IsLegal, had_turn, is_in_turn, fault_in, IsPlan}
+use Rattle.msrp_plan.specs.Common.{ℕ, true, false, List, [], Bool, not, nat_lt, Option, Some, None, Ok, Err, length, slice_get, ⊤, IsSomeAnd, PlanModel, IsLegal, had_turn, is_in_turn, fault_in, IsPlan}
 use Rattle.msrp_plan.specs.declared.faults.Fault.{Fault}
 use Rattle.msrp_plan.specs.declared.rows.Row.{Row}
-use Rattle.std.specs.Prelude.{Result}
+use Rattle.std.specs.Prelude.{◌∷◌, ◌++◌, ◌&&◌, ◌/◌, ◌≡◌, ◌<◌, ◌≤◌, ◌+◌, ◌-◌, ◌*◌, Result}
 use Rattle.std.specs.Option.{option_map}
 use Rattle.msrp_core.specs.Machine.{MachineModel}
 use Rattle.msrp_sim.specs.Cores.{CoresModel, StandFor, IsNextRow, IsAs}

@@ -1,5 +1,6 @@
 -- A row against the one that its core was due to make: what the first rule is that it breaks.
-use Rattle.msrp_plan.specs.Common.{ℕ, Bool, true, false, ◌==◌, ◌&&◌, Option, Some, None, if◌then◌else◌, option_or, same_res, same_kind, same_choice}
+use Rattle.std.specs.Prelude.{◌==◌, ◌&&◌, if◌then◌else◌}
+use Rattle.msrp_plan.specs.Common.{ℕ, Bool, true, false, Option, Some, None, option_or, same_res, same_kind, same_choice}
 use Rattle.msrp_plan.specs.declared.faults.Rule.{Rule}
 use Rattle.msrp_plan.specs.declared.faults.Rule.TheVariants.{A3, A4, A5}
 use Rattle.msrp_plan.specs.declared.rows.Kind.{Kind}

@@ -1,5 +1,6 @@
 //! The auditor, row by row.
-ghost use Rattle.msrp_plan.specs.Common.{◌≡◌, ◌≤◌, ◌<◌, ◌+◌, ◌*◌, ◌/◌, ◌%◌, ◌++◌, ◌∷◌, ◌↔◌, [], ℕ, List, IfOk, IfNone, IfSome, Some, None, Err, length, true, IsSomeAnd, most_rows, log_of, is_of_core, is_in_turn, fault_in, verdict, IsPlan};
+ghost use Rattle.std.specs.Prelude.{◌≡◌, ◌≤◌, ◌<◌, ◌+◌, ◌*◌, ◌/◌, ◌%◌, ◌++◌, ◌∷◌, ◌↔◌};
+ghost use Rattle.msrp_plan.specs.Common.{[], ℕ, List, IfOk, IfNone, IfSome, Some, None, Err, length, true, IsSomeAnd, most_rows, log_of, is_of_core, is_in_turn, fault_in, verdict, IsPlan};
 ghost use Rattle.std.specs.Option.{is_some};
 ghost use Rattle.msrp_core.specs.CoreStates.{IsCoreState};
 ghost use Rattle.msrp_plan.specs.Verdict.{refused};

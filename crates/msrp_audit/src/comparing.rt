@@ -1,5 +1,6 @@
 //! A row against the one that was due.
-ghost use Rattle.msrp_plan.specs.Common.{◌≡◌, same_choice, same_res, same_kind};
+ghost use Rattle.std.specs.Prelude.{◌≡◌};
+ghost use Rattle.msrp_plan.specs.Common.{same_choice, same_res, same_kind};
 ghost use Rattle.msrp_audit.specs.Foresight.{same_action, same_ahead, does_alike, replied_alike, unlike, unlike_turn};
 
 use msrp_plan::{Kind, Row, Rule};

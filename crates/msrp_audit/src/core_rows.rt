@@ -1,5 +1,6 @@
 //! The rows of one core: A2 to A4.
-ghost use Rattle.msrp_plan.specs.Common.{◌≡◌, ◌<◌, ◌≤◌, ◌*◌, ◌+◌, ◌++◌, ◌∷◌, [], List, IfOk, None, length, true, log_of, IsRunStart, is_in_turn, IsPlan};
+ghost use Rattle.std.specs.Prelude.{◌≡◌, ◌<◌, ◌≤◌, ◌*◌, ◌+◌, ◌++◌, ◌∷◌};
+ghost use Rattle.msrp_plan.specs.Common.{[], List, IfOk, None, length, true, log_of, IsRunStart, is_in_turn, IsPlan};
 ghost use Rattle.msrp_plan.specs.declared.rows.Row.{Row as TraceRow};
 ghost use Rattle.msrp_core.specs.Machine.{StandsAfter};
 ghost use Rattle.msrp_audit.specs.Inside.Pieces.{broken_action, broken_on_core, TellsFirst};

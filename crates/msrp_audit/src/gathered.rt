@@ -1,5 +1,6 @@
 //! The rows of an audit in pieces: how they are gathered, and how a piece reads them.
-ghost use Rattle.msrp_plan.specs.Common.{◌≡◌, ◌<◌, ◌++◌, ◌∷◌, [], length, slice_index_or, take, IfErr, IfOk, OnOk, is_of, is_on};
+ghost use Rattle.std.specs.Prelude.{◌≡◌, ◌<◌, ◌++◌, ◌∷◌};
+ghost use Rattle.msrp_plan.specs.Common.{[], length, slice_index_or, take, IfErr, IfOk, OnOk, is_of, is_on};
 ghost use Rattle.msrp_plan.specs.declared.rows.Row.{Row as TraceRow};
 
 use crate::small_row::SmallRow;

@@ -1,5 +1,6 @@
 //! The verdict on a whole trace, by pieces.
-ghost use Rattle.msrp_plan.specs.Common.{◌≡◌, ◌≤◌, ◌<◌, ◌*◌, ◌+◌, nat_lt, IfOk, List, length, take, most_rows, fault_in, verdict};
+ghost use Rattle.std.specs.Prelude.{◌≡◌, ◌≤◌, ◌<◌, ◌*◌, ◌+◌};
+ghost use Rattle.msrp_plan.specs.Common.{nat_lt, IfOk, List, length, take, most_rows, fault_in, verdict};
 ghost use Rattle.msrp_plan.specs.declared.rows.Row.{Row as TraceRow};
 ghost use Rattle.msrp_audit.specs.Audits.{answer_of};
 ghost use Rattle.msrp_audit.specs.Inside.Pieces.{broken_in, earlier_of, earliest_of, fault_order, length_fault_of, piece_with, pieces_of, rule_number, TellsFirst};

@@ -1,5 +1,6 @@
 //! The pieces of an audit: each looks at some of the rows alone.
-ghost use Rattle.msrp_plan.specs.Common.{◌≡◌, ◌≤◌, ◌<◌, ◌*◌, IfOk, length, IsPlan};
+ghost use Rattle.std.specs.Prelude.{◌≡◌, ◌≤◌, ◌<◌, ◌*◌};
+ghost use Rattle.msrp_plan.specs.Common.{IfOk, length, IsPlan};
 ghost use Rattle.msrp_audit.specs.Inside.Pieces.{broken_in, parts, piece_with, pieces_of, TellsFirst};
 
 use crate::core_rows::judge_core;

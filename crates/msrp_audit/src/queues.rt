@@ -1,5 +1,6 @@
 //! The queue of one resource: A5.
-ghost use Rattle.msrp_plan.specs.Common.{◌≡◌, ◌<◌, ◌≤◌, ◌*◌, IfOk, length, counts, is_behind, is_first, is_reply_of, replies, list_any, same_job};
+ghost use Rattle.std.specs.Prelude.{◌≡◌, ◌<◌, ◌≤◌, ◌*◌};
+ghost use Rattle.msrp_plan.specs.Common.{IfOk, length, counts, is_behind, is_first, is_reply_of, replies, list_any, same_job};
 ghost use Rattle.msrp_audit.specs.Inside.Pieces.{broken_reply, TellsFirst};
 
 use crate::gathered::Rows;

@@ -1,5 +1,6 @@
 //! A row in eight bytes.
-ghost use Rattle.msrp_plan.specs.Common.{◌≡◌, ◌-◌, IfSome, nat_le, is_of, is_on, ahead_of_kind, job_of_kind, res_of_kind};
+ghost use Rattle.std.specs.Prelude.{◌≡◌, ◌-◌};
+ghost use Rattle.msrp_plan.specs.Common.{IfSome, nat_le, is_of, is_on, ahead_of_kind, job_of_kind, res_of_kind};
 ghost use Rattle.msrp_audit.specs.Inside.SmallRows.{job_in, kind_coded, res_in, row_of};
 
 use msrp_plan::{CoreId, JobId, Kind, ResId, Row, TaskId};

@@ -1,5 +1,6 @@
 //! The turns of some ticks: A1.
-ghost use Rattle.msrp_plan.specs.Common.{◌≡◌, ◌≤◌, ◌<◌, ◌*◌, ◌/◌, ◌==◌, List, length, true, IsRunStart, is_in_turn, IsPlan};
+ghost use Rattle.std.specs.Prelude.{◌≡◌, ◌≤◌, ◌<◌, ◌*◌, ◌/◌, ◌==◌};
+ghost use Rattle.msrp_plan.specs.Common.{List, length, true, IsRunStart, is_in_turn, IsPlan};
 ghost use Rattle.msrp_plan.specs.declared.rows.Row.{Row as TraceRow};
 ghost use Rattle.msrp_audit.specs.Inside.Pieces.{broken_turn, TellsFirst};
 ghost use Rattle.msrp_audit.specs.Inside.Walks.{AreNextTurns};

@@ -1,5 +1,6 @@
 //! The verdict on a whole trace.
-ghost use Rattle.msrp_plan.specs.Common.{◌≡◌, [], Err, IfOk, verdict};
+ghost use Rattle.std.specs.Prelude.{◌≡◌};
+ghost use Rattle.msrp_plan.specs.Common.{[], Err, IfOk, verdict};
 ghost use Rattle.msrp_plan.specs.declared.faults.Fault.{Fault as TraceFault};
 ghost use Rattle.msrp_audit.specs.Audits.{HasFed, answer_of};
 

@@ -1,5 +1,6 @@
 -- What a seat keeps of a core after its arrival.
-use Rattle.msrp_plan.proofs.Common.{◌==◌, ◌||◌, ◌≡◌, ℕ, suc, List, [], ◌∷◌, Bool, false, refl, sym, ap, ◌∙◌, arith, ne_eqb, list_any}
+use Rattle.std.proofs.Common.{◌==◌, ◌||◌, ◌≡◌, ◌∷◌, ◌∙◌}
+use Rattle.msrp_plan.proofs.Common.{ℕ, suc, List, [], Bool, false, refl, sym, ap, arith, ne_eqb, list_any}
 use Rattle.msrp_board.specs.declared.books.Entry.{Entry}
 use Rattle.msrp_board.specs.declared.pages.Page.{Page}
 use Rattle.msrp_board.specs.declared.held.CoreState.{CoreState}

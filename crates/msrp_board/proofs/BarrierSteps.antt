@@ -1,6 +1,6 @@
 -- A look and an arrival keep the rule.
-use Rattle.msrp_plan.proofs.Common.{ltb, leb, ◌≡◌, ◌≢◌, ⊎_elim, ℕ, zero, suc, ◌+◌, ◌*◌, ◌/◌, ◌%◌, ◌^◌, ◌<◌, ◌≤◌, List, [], ◌∷◌, length, set, Bool, true, false, refl, sym, ap, ◌∙◌, subst, arith, slice_index, some, none, some-injective, some-ne-none, get_elem?, mul-le, mod-mul-add, div-mul-add, length-set, get_or-set_same, get_or-set_other}
-use Rattle.std.proofs.Common.{ltb-true, leb-true}
+use Rattle.msrp_plan.proofs.Common.{ltb, leb, ⊎_elim, ℕ, zero, suc, List, [], length, set, Bool, true, false, refl, sym, ap, subst, arith, slice_index, some, none, some-injective, some-ne-none, get_elem?, mul-le, mod-mul-add, div-mul-add, length-set, get_or-set_same, get_or-set_other}
+use Rattle.std.proofs.Common.{◌≡◌, ◌≢◌, ◌+◌, ◌*◌, ◌/◌, ◌%◌, ◌^◌, ◌<◌, ◌≤◌, ◌∷◌, ◌∙◌, ltb-true, leb-true}
 use Rattle.atomic_table.specs.Table.{State, Me, step, keeps, stepped, Allows}
 use Rattle.atomic_table.proofs.Lists.{at_set}
 use Rattle.msrp_board.specs.declared.pages.Page.{Page}

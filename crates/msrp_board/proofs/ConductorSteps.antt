@@ -1,5 +1,6 @@
 -- The conductor's steps keep the rule.
-use Rattle.msrp_plan.proofs.Common.{◌≡◌, ◌≢◌, ⊎_elim, ℕ, ◌+◌, ◌%◌, ◌^◌, List, [], set, Some, refl, sym, ap, ◌∙◌, subst, arith, slice_index, some, none, get_elem?, length-set, get_or-set_same, get_or-set_other, same_Some}
+use Rattle.std.proofs.Common.{◌≡◌, ◌≢◌, ◌+◌, ◌%◌, ◌^◌, ◌∙◌}
+use Rattle.msrp_plan.proofs.Common.{⊎_elim, ℕ, List, [], set, Some, refl, sym, ap, subst, arith, slice_index, some, none, get_elem?, length-set, get_or-set_same, get_or-set_other, same_Some}
 use Rattle.atomic_table.specs.Table.{State, Me, step, keeps, stepped, Allows}
 use Rattle.atomic_table.proofs.Lists.{at_set, set_here}
 use Rattle.msrp_board.specs.declared.pages.View.{View}

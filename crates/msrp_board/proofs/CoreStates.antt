@@ -1,5 +1,6 @@
 -- What a seat keeps of its cores is what its pages say, also after a step.
-use Rattle.msrp_plan.proofs.Common.{◌≡◌, ◌⊎◌, inl, inr, ⊎_elim, ℕ, zero, suc, List, [], ◌∷◌, map, get_or, Some, None, if◌then◌else◌, refl, sym, ap, ◌∙◌, subst, eq-eqb, ne_eqb, some, some-injective, some-ne-none, dite, ℕ_discrete, get_elem?, same_Some}
+use Rattle.std.proofs.Common.{◌≡◌, ◌⊎◌, ◌∷◌, if◌then◌else◌, ◌∙◌}
+use Rattle.msrp_plan.proofs.Common.{inl, inr, ⊎_elim, ℕ, zero, suc, List, [], map, get_or, Some, None, refl, sym, ap, subst, eq-eqb, ne_eqb, some, some-injective, some-ne-none, dite, ℕ_discrete, get_elem?, same_Some}
 use Rattle.std.specs.declared.option.Option.{Option}
 use Rattle.std.specs.Option.{option_map}
 use Rattle.atomic_table.specs.Table.{Me}

@@ -1,5 +1,6 @@
 -- What a core's book says of its stand at each resource.
-use Rattle.msrp_plan.proofs.Common.{cond, ◌≡◌, ◌≢◌, ℕ, zero, suc, ◌+◌, ◌*◌, ◌≤◌, List, [], ◌∷◌, length, set, Bool, true, false, refl, sym, ap, ◌∙◌, arith, eqb, eq-eqb, ne_eqb, some, some-ne-none, some-injective, dite, ℕ_discrete, get_elem?}
+use Rattle.std.proofs.Common.{◌≡◌, ◌≢◌, ◌+◌, ◌*◌, ◌≤◌, ◌∷◌, ◌∙◌}
+use Rattle.msrp_plan.proofs.Common.{cond, ℕ, zero, suc, List, [], length, set, Bool, true, false, refl, sym, ap, arith, eqb, eq-eqb, ne_eqb, some, some-ne-none, some-injective, dite, ℕ_discrete, get_elem?}
 use Rattle.msrp_plan.specs.declared.units.Call.{Call}
 use Rattle.msrp_plan.specs.declared.units.Call.TheVariants.{Ask, Poll, Leave}
 use Rattle.msrp_board.specs.declared.books.Entry.{Entry}

@@ -1,6 +1,6 @@
 -- The rule at the end of a board, as callers see it.
-use Rattle.msrp_plan.proofs.Common.{◌≡◌, ◌⊎◌, ⊎_elim, inl, inr, ℕ, zero, suc, ◌+◌, ◌<◌, ◌≤◌, List, [], ◌∷◌, length, map, set, take, reverse, Some, None, Bool, true, false, refl, sym, ap, ◌∙◌, subst, arith, slice_index, slice_index_or, slice_get, some, some-injective, some-ne-none, dite, ℕ_discrete, get_elem?, mul-le, mod-mul-add, div-mul-add, cases_lt, length-map, length-take-le, get_or-take, get_or-set_same, get_or-set_other, sum_by-cons}
-use Rattle.std.proofs.Common.{true≢false}
+use Rattle.msrp_plan.proofs.Common.{⊎_elim, inl, inr, ℕ, zero, suc, List, [], length, map, set, take, reverse, Some, None, Bool, true, false, refl, sym, ap, subst, arith, slice_index, slice_index_or, slice_get, some, some-injective, some-ne-none, dite, ℕ_discrete, get_elem?, mul-le, mod-mul-add, div-mul-add, cases_lt, length-map, length-take-le, get_or-take, get_or-set_same, get_or-set_other, sum_by-cons}
+use Rattle.std.proofs.Common.{◌≡◌, ◌⊎◌, ◌+◌, ◌<◌, ◌≤◌, ◌∷◌, ◌∙◌, true≢false}
 use Rattle.std.specs.Prelude.{sum_by, filter_map}
 use Rattle.std.specs.Option.{option_map, unwrap_or, is_some}
 use Rattle.std.specs.declared.option.Option.{Option}

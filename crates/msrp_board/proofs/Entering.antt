@@ -1,5 +1,6 @@
 -- What a step on a ticket word tells, by the halves that it found.
-use Rattle.msrp_plan.proofs.Common.{◌==◌, ◌≡◌, ℕ, ◌+◌, sym, ap, ◌∙◌, subst, none}
+use Rattle.std.proofs.Common.{◌==◌, ◌≡◌, ◌+◌, ◌∙◌}
+use Rattle.msrp_plan.proofs.Common.{ℕ, sym, ap, subst, none}
 use Rattle.msrp_plan.specs.declared.units.Call.{Call}
 use Rattle.msrp_plan.specs.declared.units.Call.TheVariants.{Poll}
 use Rattle.atomic_table.specs.Table.{Me, step}

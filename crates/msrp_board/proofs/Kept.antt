@@ -1,8 +1,8 @@
 -- Each step keeps the rule's part on one book, which a seat knows by itself; and what follows from it.
-use Rattle.msrp_plan.proofs.Common.{◌==◌, ◌||◌, ◌≡◌, ◌≢◌, ℕ, zero, suc, ◌<◌, ◌≤◌, List, [], ◌∷◌, Bool, true, false, refl, sym, ap, ◌∙◌, subst, arith, eq-eqb, list_any, AllByRecursion, dite, ℕ_discrete}
+use Rattle.msrp_plan.proofs.Common.{ℕ, zero, suc, List, [], Bool, true, false, refl, sym, ap, subst, arith, eq-eqb, list_any, AllByRecursion, dite, ℕ_discrete}
 use Rattle.msrp_plan.specs.declared.units.Call.{Call}
 use Rattle.msrp_plan.specs.declared.units.Call.TheVariants.{Ask, Poll, Leave}
-use Rattle.std.proofs.Common.{true≢false}
+use Rattle.std.proofs.Common.{◌==◌, ◌||◌, ◌≡◌, ◌≢◌, ◌<◌, ◌≤◌, ◌∷◌, ◌∙◌, true≢false}
 use Rattle.msrp_board.specs.declared.books.Entry.{Entry}
 use Rattle.msrp_board.specs.declared.books.BoardSize.{BoardSize}
 use Rattle.msrp_board.specs.declared.held.Claim.{Claim}

@@ -1,5 +1,6 @@
 -- Lists read in the other direction.
-use Rattle.msrp_plan.proofs.Common.{◌≡◌, List, [], ◌∷◌, ◌++◌, reverse, Bool, true, false, cond, fold, refl, sym, ap, ◌∙◌, subst, append-nil, filter, AllByRecursion, filter-append, all_push}
+use Rattle.std.proofs.Common.{◌≡◌, ◌∷◌, ◌++◌, ◌∙◌}
+use Rattle.msrp_plan.proofs.Common.{List, [], reverse, Bool, true, false, cond, fold, refl, sym, ap, subst, append-nil, filter, AllByRecursion, filter-append, all_push}
 use Rattle.std.proofs.lemmas.List.{reverse-append}
 use Rattle.msrp_board.specs.Books.{IsChain}
 

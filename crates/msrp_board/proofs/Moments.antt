@@ -1,5 +1,6 @@
 -- A state under the rule, as callers see it.
-use Rattle.msrp_plan.proofs.Common.{◌≡◌, ℕ, zero, suc, List, [], ◌∷◌, map, set, Some, refl, sym, ap, ◌∙◌, subst, arith, slice_get, slice_index, set-get_or, some, none, some-injective, some-ne-none, get_elem?}
+use Rattle.std.proofs.Common.{◌≡◌, ◌∷◌, ◌∙◌}
+use Rattle.msrp_plan.proofs.Common.{ℕ, zero, suc, List, [], map, set, Some, refl, sym, ap, subst, arith, slice_get, slice_index, set-get_or, some, none, some-injective, some-ne-none, get_elem?}
 use Rattle.atomic_table.proofs.Lists.{set_again}
 use Rattle.atomic_table.specs.Table.{State, Me, step, keeps, stepped, Allows}
 use Rattle.msrp_board.specs.declared.books.BoardSize.{BoardSize}

@@ -1,8 +1,8 @@
 -- What a legal history says of each core.
-use Rattle.msrp_plan.proofs.Common.{div-mul-add, ◌/◌, cond, ◌≡◌, ◌≢◌, ◌⊎◌, inl, inr, ⊎_elim, ℕ, zero, suc, ◌+◌, ◌*◌, ◌<◌, List, [], ◌∷◌, ◌++◌, length, Bool, true, false, refl, sym, ap, ◌∙◌, subst, arith, eq-eqb, ne_eqb, length-append, some, none, some-injective, some-ne-none, dite, ℕ_discrete, get_elem?, IsAmong, IsFirst, without_first, Answers}
+use Rattle.msrp_plan.proofs.Common.{div-mul-add, cond, inl, inr, ⊎_elim, ℕ, zero, suc, List, [], length, Bool, true, false, refl, sym, ap, subst, arith, eq-eqb, ne_eqb, length-append, some, none, some-injective, some-ne-none, dite, ℕ_discrete, get_elem?, IsAmong, IsFirst, without_first, Answers}
 use Rattle.msrp_plan.specs.declared.units.Call.{Call}
 use Rattle.msrp_plan.specs.declared.units.Call.TheVariants.{Ask, Poll, Leave}
-use Rattle.std.proofs.Common.{true≢false}
+use Rattle.std.proofs.Common.{◌/◌, ◌≡◌, ◌≢◌, ◌⊎◌, ◌+◌, ◌*◌, ◌<◌, ◌∷◌, ◌++◌, ◌∙◌, true≢false}
 use mathlib.Core.Option.{Option}
 use Rattle.atomic_table.proofs.Lists.{at_longer, at_last}
 use Rattle.msrp_board.specs.declared.books.Entry.{Entry}

@@ -1,10 +1,10 @@
 -- What a board keeps newest first, read oldest first: its histories, and its books.
-use Rattle.msrp_plan.proofs.Common.{◌==◌, ◌≡◌, ℕ, ◌+◌, ◌<◌, ◌≤◌, List, [], ◌∷◌, ◌++◌, reverse, Bool, true, false, cond, fold, refl, sym, ap, ◌∙◌, subst, arith, append-nil, count_by, AllByRecursion, sum_by-append, sum_by-cons, FifoLock, free_lock, lock_after, Answers, Legal, ResCall, claim_with, IsDueCall, lock_from}
+use Rattle.msrp_plan.proofs.Common.{ℕ, List, [], reverse, Bool, true, false, cond, fold, refl, sym, ap, subst, arith, append-nil, count_by, AllByRecursion, sum_by-append, sum_by-cons, FifoLock, free_lock, lock_after, Answers, Legal, ResCall, claim_with, IsDueCall, lock_from}
 use Rattle.msrp_plan.specs.declared.units.Call.{Call}
 use Rattle.msrp_plan.specs.declared.units.Call.TheVariants.{Ask, Poll, Leave}
 use Rattle.msrp_plan.specs.declared.units.Phase.{Phase}
 use Rattle.msrp_plan.specs.declared.units.Phase.TheVariants.{Free}
-use Rattle.std.proofs.Common.{true≢false}
+use Rattle.std.proofs.Common.{◌==◌, ◌≡◌, ◌+◌, ◌<◌, ◌≤◌, ◌∷◌, ◌++◌, ◌∙◌, true≢false}
 use Rattle.std.specs.Bool.{OnTrue}
 use Rattle.msrp_board.specs.declared.books.Entry.{Entry}
 use Rattle.msrp_board.specs.declared.held.Claim.{Claim}

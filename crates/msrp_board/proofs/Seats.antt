@@ -1,10 +1,10 @@
 -- What a call makes of a seat, as callers see it.
-use Rattle.msrp_plan.proofs.Common.{arith, ◌==◌, ◌≡◌, ℕ, zero, suc, ◌+◌, ◌*◌, ◌<◌, List, [], ◌∷◌, map, replicate, Bool, true, false, nat_lt, ltb, leb, Some, None, refl, sym, ap, ◌∙◌, subst, some, get_elem?}
+use Rattle.msrp_plan.proofs.Common.{arith, ℕ, zero, suc, List, [], map, replicate, Bool, true, false, nat_lt, ltb, leb, Some, None, refl, sym, ap, subst, some, get_elem?}
 use Rattle.msrp_plan.specs.declared.ids.ResId.{ResId}
 use Rattle.msrp_plan.specs.declared.units.Call.{Call}
 use Rattle.msrp_plan.specs.declared.units.Phase.{Phase}
 use Rattle.msrp_plan.specs.declared.units.Phase.TheVariants.{Free, Queued, Holding}
-use Rattle.std.proofs.Common.{ltb-true}
+use Rattle.std.proofs.Common.{◌==◌, ◌≡◌, ◌+◌, ◌*◌, ◌<◌, ◌∷◌, ◌∙◌, ltb-true}
 use Rattle.std.specs.Option.{option_map}
 use Rattle.std.specs.declared.option.Option.{Option}
 use Rattle.atomic_table.specs.Table.{Me}

@@ -1,6 +1,6 @@
 -- The rule at the start.
-use Rattle.msrp_plan.proofs.Common.{◌==◌, ◌≡◌, ◌≢◌, ℕ, zero, suc, ◌+◌, ◌<◌, ◌≤◌, List, [], ◌∷◌, length, take, replicate, Some, None, if◌then◌else◌, eq-eqb, ne_eqb, refl, sym, ap, ◌∙◌, subst, arith, slice_index, some, some-injective, some-ne-none, dite, ℕ_discrete, get_elem?, same_Some}
-use Rattle.std.proofs.Common.{true≢false}
+use Rattle.msrp_plan.proofs.Common.{ℕ, zero, suc, List, [], length, take, replicate, Some, None, eq-eqb, ne_eqb, refl, sym, ap, subst, arith, slice_index, some, some-injective, some-ne-none, dite, ℕ_discrete, get_elem?, same_Some}
+use Rattle.std.proofs.Common.{◌==◌, ◌≡◌, ◌≢◌, ◌+◌, ◌<◌, ◌≤◌, ◌∷◌, if◌then◌else◌, ◌∙◌, true≢false}
 use Rattle.atomic_table.specs.Table.{opening}
 use Rattle.msrp_board.specs.declared.pages.Page.{Page}
 use Rattle.msrp_board.specs.declared.pages.View.{View}

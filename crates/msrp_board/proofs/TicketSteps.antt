@@ -1,8 +1,8 @@
 -- A request, a poll and a release keep the rule.
-use Rattle.msrp_plan.proofs.Common.{◌==◌, eq-eqb, ne_eqb, ◌≡◌, ◌≢◌, ◌⊎◌, inl, inr, ⊎_elim, ℕ, zero, suc, ◌+◌, ◌*◌, ◌%◌, ◌^◌, ◌-◌, ◌<◌, ◌≤◌, List, [], ◌∷◌, length, set, Some, Bool, true, false, refl, sym, ap, ◌∙◌, subst, arith, slice_index, some, none, some-injective, some-ne-none, dite, ℕ_discrete, get_elem?, mul-le, mod-mul-add, div-mul-add, length-set, get_or-set_same, get_or-set_other, Answers, IsAmong, IsFirst}
+use Rattle.msrp_plan.proofs.Common.{eq-eqb, ne_eqb, inl, inr, ⊎_elim, ℕ, zero, suc, List, [], length, set, Some, Bool, true, false, refl, sym, ap, subst, arith, slice_index, some, none, some-injective, some-ne-none, dite, ℕ_discrete, get_elem?, mul-le, mod-mul-add, div-mul-add, length-set, get_or-set_same, get_or-set_other, Answers, IsAmong, IsFirst}
 use Rattle.msrp_plan.specs.declared.units.Call.{Call}
 use Rattle.msrp_plan.specs.declared.units.Call.TheVariants.{Ask, Poll, Leave}
-use Rattle.std.proofs.Common.{true≢false}
+use Rattle.std.proofs.Common.{◌==◌, ◌≡◌, ◌≢◌, ◌⊎◌, ◌+◌, ◌*◌, ◌%◌, ◌^◌, ◌-◌, ◌<◌, ◌≤◌, ◌∷◌, ◌∙◌, true≢false}
 use native.Mathlib.Decide.{dec_lt}
 use Rattle.atomic_table.specs.Table.{State, Me, step, keeps, stepped, Allows}
 use Rattle.atomic_table.proofs.Lists.{at_set, set_here, set_else}

@@ -1,5 +1,6 @@
 -- A page as callers see it: what it says of its core is what the book says.
-use Rattle.msrp_plan.proofs.Common.{◌++◌, nat_lt, ◌==◌, ◌||◌, ◌≡◌, ℕ, zero, suc, List, [], ◌∷◌, map, reverse, Bool, true, false, Some, None, refl, sym, ap, ◌∙◌, slice_index_or, list_any, list_any-append, some, get_elem?, ResCall, claim_with, claim_after}
+use Rattle.std.proofs.Common.{◌++◌, ◌==◌, ◌||◌, ◌≡◌, ◌∷◌, ◌∙◌}
+use Rattle.msrp_plan.proofs.Common.{nat_lt, ℕ, zero, suc, List, [], map, reverse, Bool, true, false, Some, None, refl, sym, ap, slice_index_or, list_any, list_any-append, some, get_elem?, ResCall, claim_with, claim_after}
 use Rattle.msrp_plan.specs.declared.units.Call.{Call}
 use Rattle.msrp_plan.specs.declared.units.Call.TheVariants.{Ask, Poll, Leave}
 use Rattle.msrp_plan.specs.declared.units.Phase.{Phase}

@@ -1,5 +1,6 @@
 -- Two lists with the same entries of each core, in one order, are equal; so books have but one history.
-use Rattle.msrp_plan.proofs.Common.{◌≡◌, ◌≢◌, ◌⊎◌, inl, inr, ℕ, ◌<◌, ◌≤◌, true, cond, List, [], ◌∷◌, refl, ap, sym, ◌∙◌, subst, arith, eq-eqb, ne_eqb, AllByRecursion, dite, ℕ_discrete, all_weaker}
+use Rattle.std.proofs.Common.{◌≡◌, ◌≢◌, ◌⊎◌, ◌<◌, ◌≤◌, ◌∷◌, ◌∙◌}
+use Rattle.msrp_plan.proofs.Common.{inl, inr, ℕ, true, cond, List, [], refl, ap, sym, subst, arith, eq-eqb, ne_eqb, AllByRecursion, dite, ℕ_discrete, all_weaker}
 use Rattle.msrp_plan.specs.declared.units.Call.{Call}
 use Rattle.msrp_plan.specs.declared.units.Call.TheVariants.{Ask, Poll, Leave}
 use Rattle.msrp_board.specs.declared.books.Entry.{Entry}

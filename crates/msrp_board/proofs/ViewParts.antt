@@ -1,5 +1,6 @@
 -- A view cut in two, and two views joined.
-use Rattle.msrp_plan.proofs.Common.{◌≡◌, ◌≢◌, ◌⊎◌, inl, inr, ⊎_elim, ℕ, zero, suc, List, [], ◌∷◌, Some, None, refl, sym, ap, ◌∙◌, arith, some, some-injective, some-ne-none, get_elem?}
+use Rattle.std.proofs.Common.{◌≡◌, ◌≢◌, ◌⊎◌, ◌∷◌, ◌∙◌}
+use Rattle.msrp_plan.proofs.Common.{inl, inr, ⊎_elim, ℕ, zero, suc, List, [], Some, None, refl, sym, ap, arith, some, some-injective, some-ne-none, get_elem?}
 use Rattle.std.specs.declared.option.Option.{Option}
 use Rattle.atomic_table.specs.Table.{Splits, Joins}
 use Rattle.msrp_board.specs.declared.pages.Page.{Page}

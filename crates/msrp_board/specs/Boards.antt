@@ -1,6 +1,6 @@
 -- The rule of a board: what holds of its words and of the books of all its seats between any two steps.
-use Rattle.msrp_plan.specs.Common.{◌≡◌, ℕ, ◌+◌, ◌<◌, ◌≤◌, List, length, true, slice_index, Some, slice_get, slice_index_or}
-use Rattle.std.specs.Prelude.{sum_by}
+use Rattle.msrp_plan.specs.Common.{ℕ, List, length, true, slice_index, Some, slice_get, slice_index_or}
+use Rattle.std.specs.Prelude.{◌≡◌, ◌+◌, ◌<◌, ◌≤◌, sum_by}
 use Rattle.msrp_board.specs.declared.books.Entry.{Entry}
 use Rattle.msrp_board.specs.declared.books.Book.{Book}
 use Rattle.msrp_board.specs.declared.books.BoardSize.{BoardSize}

@@ -1,5 +1,6 @@
 -- What a core's book says of the core, and what every book keeps: the rule's part on one book. Entries stand oldest first.
-use Rattle.msrp_plan.specs.Common.{ℕ, suc, ◌<◌, ◌≤◌, List, [], ◌∷◌, Bool, true, false, nat_lt, ◌==◌, map, ⊤, if◌then◌else◌, list_any, filter, AllByRecursion, ResCall, claim_after, most_cores, most_resources}
+use Rattle.std.specs.Prelude.{◌<◌, ◌≤◌, ◌∷◌, ◌==◌, if◌then◌else◌}
+use Rattle.msrp_plan.specs.Common.{ℕ, suc, List, [], Bool, true, false, nat_lt, map, ⊤, list_any, filter, AllByRecursion, ResCall, claim_after, most_cores, most_resources}
 use Rattle.msrp_plan.specs.declared.units.Call.{Call}
 use Rattle.msrp_plan.specs.declared.units.Call.TheVariants.{Ask, Poll, Leave}
 use Rattle.msrp_plan.specs.declared.units.Phase.{Phase}

@@ -1,5 +1,6 @@
 -- Boards of two cores and one resource that break one line of the rule each: the conductor opened, and nobody was stopped but where it is said.
-use Rattle.msrp_plan.specs.Common.{ℕ, List, [], ◌∷◌, true, false}
+use Rattle.std.specs.Prelude.{◌∷◌}
+use Rattle.msrp_plan.specs.Common.{ℕ, List, [], true, false}
 use Rattle.msrp_plan.specs.declared.units.Call.{Call}
 use Rattle.msrp_plan.specs.declared.units.Call.TheVariants.{Ask, Poll, Leave}
 use Rattle.msrp_board.specs.declared.books.Book.{Book}

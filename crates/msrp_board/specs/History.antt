@@ -1,7 +1,8 @@
 -- The history of a resource: what all cores did with it, in the one order of its ticket word, oldest first. In the words of Herlihy and
 -- Wing (1990) a book is a core's local history, and a history that `IsServed` a linearization of the books: its sequential specification is
 -- the first-in-first-out lock, and the linearization point of a step its instruction on the ticket word, which the place tells.
-use Rattle.msrp_plan.specs.Common.{◌≡◌, ℕ, suc, ◌<◌, ◌≤◌, List, [], ◌∷◌, map, Bool, true, false, ◌==◌, count_by, ◌⊎◌, ⊤, if◌then◌else◌, Legal}
+use Rattle.std.specs.Prelude.{◌≡◌, ◌<◌, ◌≤◌, ◌∷◌, ◌==◌, ◌⊎◌, if◌then◌else◌}
+use Rattle.msrp_plan.specs.Common.{ℕ, suc, List, [], map, Bool, true, false, count_by, ⊤, Legal}
 use Rattle.msrp_plan.specs.declared.units.Call.{Call}
 use Rattle.msrp_plan.specs.declared.units.Call.TheVariants.{Ask, Poll, Leave}
 use Rattle.msrp_board.specs.declared.books.Entry.{Entry}

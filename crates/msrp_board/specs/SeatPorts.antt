@@ -1,6 +1,7 @@
 -- A port over a core's seat: what was asked through the seat, and how often its core may still call in its tick. For
 -- whoever makes a core's calls on a board behind the five calls of a port: ask, poll, leave, room, resources.
-use Rattle.msrp_plan.specs.Common.{◌≡◌, ◌≢◌, ◌+◌, ℕ, List, [], ◌∷◌, ◌++◌, Bool, true, false, Some, None, ResCall}
+use Rattle.std.specs.Prelude.{◌≡◌, ◌≢◌, ◌+◌, ◌∷◌, ◌++◌}
+use Rattle.msrp_plan.specs.Common.{ℕ, List, [], Bool, true, false, Some, None, ResCall}
 use Rattle.msrp_plan.specs.declared.ids.ResId.{ResId}
 use Rattle.msrp_plan.specs.declared.units.Call.{Call}
 use Rattle.std.specs.declared.option.Option.{Option}

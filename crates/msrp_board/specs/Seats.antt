@@ -1,5 +1,6 @@
 -- What a board and a seat are to their callers, what every seat keeps, and what a seat must be for a call.
-use Rattle.msrp_plan.specs.Common.{◌≡◌, ℕ, ◌<◌, List, [], false, replicate, ◌⊎◌, Some, None, IsSome, slice_index_or}
+use Rattle.std.specs.Prelude.{◌≡◌, ◌<◌, ◌⊎◌}
+use Rattle.msrp_plan.specs.Common.{ℕ, List, [], false, replicate, Some, None, IsSome, slice_index_or}
 use Rattle.msrp_plan.specs.declared.units.Phase.{Phase}
 use Rattle.std.specs.declared.option.Option.{Option}
 use Rattle.atomic_table.specs.Seated.{TableId}

@@ -1,5 +1,6 @@
 -- What each step of a board does to the seat that makes it.
-use Rattle.msrp_plan.specs.Common.{◌≡◌, ℕ, zero, suc, List, [], ◌∷◌, ◌++◌, true, false, map, Some, None}
+use Rattle.std.specs.Prelude.{◌≡◌, ◌∷◌, ◌++◌}
+use Rattle.msrp_plan.specs.Common.{ℕ, zero, suc, List, [], true, false, map, Some, None}
 use Rattle.msrp_plan.specs.declared.ids.ResId.{ResId}
 use Rattle.msrp_plan.specs.declared.units.Call.{Call}
 use Rattle.std.specs.Option.{option_map}

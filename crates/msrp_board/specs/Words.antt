@@ -1,5 +1,6 @@
 -- The words of a board, each of 64 bits: two counts of 32 bits.
-use Rattle.msrp_plan.specs.Common.{ℕ, ◌+◌, ◌*◌, ◌/◌, ◌%◌}
+use Rattle.std.specs.Prelude.{◌+◌, ◌*◌, ◌/◌, ◌%◌}
+use Rattle.msrp_plan.specs.Common.{ℕ}
 
 -- how many numbers half a word has: one more in the high half adds so much to a word
 abbrev pub half_word : ℕ

@@ -1,5 +1,6 @@
 //! The board and its calls. None but [`Board::new`] takes memory, and none waits for another thread.
-ghost use Rattle.msrp_plan.specs.Common.{◌≡◌, ◌<◌, ◌↔◌, ℕ, Some, IfOk, IsSome};
+ghost use Rattle.std.specs.Prelude.{◌≡◌, ◌<◌, ◌↔◌};
+ghost use Rattle.msrp_plan.specs.Common.{ℕ, Some, IfOk, IsSome};
 ghost use Rattle.msrp_plan.specs.declared.ids.ResId.{ResId};
 ghost use Rattle.msrp_plan.specs.declared.units.Call.TheVariants.{Ask, Poll, Leave};
 ghost use Rattle.msrp_plan.specs.declared.units.Phase.TheVariants.{Free, Queued, Holding};

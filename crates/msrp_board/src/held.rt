@@ -1,5 +1,6 @@
 //! What a seat keeps at run time of a core whose book it holds: enough to answer its readers, without the entries.
-ghost use Rattle.msrp_plan.specs.Common.{◌≡◌, ◌<◌, ◌+◌, ◌-◌, ℕ, suc, nat_lt};
+ghost use Rattle.std.specs.Prelude.{◌≡◌, ◌<◌, ◌+◌, ◌-◌};
+ghost use Rattle.msrp_plan.specs.Common.{ℕ, suc, nat_lt};
 ghost use Rattle.msrp_plan.specs.declared.units.Call.TheVariants.{Ask, Poll, Leave};
 ghost use Rattle.msrp_board.specs.declared.pages.Page.{Page};
 ghost use Rattle.msrp_board.specs.Books.{phase_by};

@@ -1,5 +1,6 @@
 //! Laws over the definitions alone.
-ghost use Rattle.msrp_plan.specs.Common.{◌≡◌, List, [], map, false};
+ghost use Rattle.std.specs.Prelude.{◌≡◌};
+ghost use Rattle.msrp_plan.specs.Common.{List, [], map, false};
 ghost use Rattle.atomic_table.specs.Table.{State};
 ghost use Rattle.msrp_board.specs.declared.pages.View.{View};
 ghost use Rattle.msrp_board.specs.declared.answers.SeatPhase.TheVariants.{Waiting};

@@ -1,5 +1,6 @@
 //! What a thread may do on a board: a seat holds the books of some cores, and its readers answer from them.
-ghost use Rattle.msrp_plan.specs.Common.{◌≡◌, ◌↔◌, ◌<◌, ℕ, IsTrue, IsSome};
+ghost use Rattle.std.specs.Prelude.{◌≡◌, ◌↔◌, ◌<◌};
+ghost use Rattle.msrp_plan.specs.Common.{ℕ, IsTrue, IsSome};
 ghost use Rattle.msrp_board.specs.declared.books.Book.{Book};
 ghost use Rattle.msrp_board.specs.Books.{phase_in, has_acted, lock_of};
 ghost use Rattle.msrp_board.specs.Seats.{IsSeat, IsCoreSeat, HasCore, book_at};

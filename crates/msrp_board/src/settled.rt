@@ -1,5 +1,6 @@
 //! A board that nobody uses any more.
-ghost use Rattle.msrp_plan.specs.Common.{◌≡◌, ◌<◌, ◌≤◌, ◌+◌, ℕ, Some, false, length, slice_get, slice_index};
+ghost use Rattle.std.specs.Prelude.{◌≡◌, ◌<◌, ◌≤◌, ◌+◌};
+ghost use Rattle.msrp_plan.specs.Common.{ℕ, Some, false, length, slice_get, slice_index};
 ghost use Rattle.std.specs.Mem.Slots.{slots_items, slots_len, IsFull};
 ghost use Rattle.msrp_board.specs.declared.books.Book.{Book};
 ghost use Rattle.msrp_board.specs.declared.books.Conductor.TheVariants.{Opened};

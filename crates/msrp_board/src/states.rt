@@ -1,6 +1,7 @@
 //! The chain in which a seat keeps the states of its cores, one node for each core: a seat is as small as what it keeps. Nodes are
 //! made with the board, and move where seats are parted and joined, so that neither takes memory.
-ghost use Rattle.msrp_plan.specs.Common.{◌≡◌, ℕ, ◌==◌, not, replicate, Some, IfOk, option_or};
+ghost use Rattle.std.specs.Prelude.{◌≡◌, ◌==◌};
+ghost use Rattle.msrp_plan.specs.Common.{ℕ, not, replicate, Some, IfOk, option_or};
 ghost use Rattle.std.specs.Option.{is_some};
 ghost use Rattle.msrp_board.specs.declared.pages.Page.{Page};
 ghost use Rattle.msrp_board.specs.declared.pages.View.{View};

@@ -1,5 +1,6 @@
 //! The kinds of step, each one atomic instruction on one word, and how seats are parted and joined.
-ghost use Rattle.msrp_plan.specs.Common.{Some, ◌≡◌, [], ◌+◌, ◌-◌, ◌<◌, ◌==◌, ◌*◌, ℕ};
+ghost use Rattle.std.specs.Prelude.{◌≡◌, ◌+◌, ◌-◌, ◌<◌, ◌==◌, ◌*◌};
+ghost use Rattle.msrp_plan.specs.Common.{Some, [], ℕ};
 ghost use Rattle.msrp_plan.specs.declared.units.Call.TheVariants.{Ask, Poll, Leave};
 ghost use mathlib.Core.Option.{none};
 ghost use Rattle.atomic_table.specs.Table.{step};

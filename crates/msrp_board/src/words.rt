@@ -1,6 +1,6 @@
 //! The words of a board, each of 64 bits. A ticket word counts requests in its high half and releases in its low half.
 //! The barrier word counts the opening and the arrivals in its low half, and in its high half the abort.
-ghost use Rattle.msrp_plan.specs.Common.{◌≡◌};
+ghost use Rattle.std.specs.Prelude.{◌≡◌};
 ghost use Rattle.msrp_board.specs.Words.{high, low};
 
 /// One more in the high half of a word.

@@ -1,5 +1,6 @@
 -- Texts that are too long, and status 5.
-use Rattle.msrp_plan.proofs.Common.{◌≡◌, ◌≤◌, ℕ, Bool, true, false, List, [], length, Option, Some, None, refl, ap, sym, subst, ◌∙◌, inl, inr, arith, cases_lt, ⊤}
+use Rattle.std.proofs.Common.{◌≡◌, ◌≤◌, ◌∙◌}
+use Rattle.msrp_plan.proofs.Common.{ℕ, Bool, true, false, List, [], length, Option, Some, None, refl, ap, sym, subst, inl, inr, arith, cases_lt, ⊤}
 use Rattle.msrp_plan.specs.declared.faults.Fault.{Fault}
 use mathlib.Core.Bool.{true≢false}
 use Rattle.std.specs.declared.result.Result.{Result}

@@ -1,5 +1,6 @@
 -- Rows as numbers that are judged one by one.
-use Rattle.msrp_plan.proofs.Common.{◌≡◌, ◌++◌, ◌∷◌, [], ◌+◌, ◌<◌, ℕ, Bool, cond, length, map, take, drop, get_or, List, None, Some, Result, Ok, Err, refl, ap, sym, ◌∙◌, arith, append-nil, append_assoc, take-append-add, length-map, map-append, take-append-drop, take_more, filter_map-append, slice_get_past, filter_map, option_and_then, slice_get, PlanModel, fault_in, verdict, fault_stays}
+use Rattle.std.proofs.Common.{◌≡◌, ◌++◌, ◌∷◌, ◌+◌, ◌<◌, ◌∙◌}
+use Rattle.msrp_plan.proofs.Common.{[], ℕ, Bool, cond, length, map, take, drop, get_or, List, None, Some, Result, Ok, Err, refl, ap, sym, arith, append-nil, append_assoc, take-append-add, length-map, map-append, take-append-drop, take_more, filter_map-append, slice_get_past, filter_map, option_and_then, slice_get, PlanModel, fault_in, verdict, fault_stays}
 use Rattle.msrp_plan.specs.declared.faults.Fault.{Fault}
 use Rattle.msrp_plan.specs.declared.rows.Row.{Row}
 use Rattle.std.specs.List.{prefix_len, take_while}

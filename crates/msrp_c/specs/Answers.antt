@@ -1,5 +1,6 @@
 -- What a call tells: its status, the numbers of what was found, and a text in the caller's buffer.
-use Rattle.msrp_plan.specs.Common.{◌≡◌, ◌↔◌, ◌<◌, ◌≤◌, ◌++◌, ℕ, Bool, true, false, nat_le, List, [], length, drop, ⊤, Result}
+use Rattle.std.specs.Prelude.{◌≡◌, ◌↔◌, ◌<◌, ◌≤◌, ◌++◌}
+use Rattle.msrp_plan.specs.Common.{ℕ, Bool, true, false, nat_le, List, [], length, drop, ⊤, Result}
 use Rattle.msrp_plan.specs.declared.faults.Fault.{Fault}
 use Rattle.msrp_plan.specs.declared.faults.Rule.{Rule}
 use Rattle.msrp_plan.specs.declared.faults.Rule.TheVariants.{A1, A2, A3, A4, A5, A6, A7}

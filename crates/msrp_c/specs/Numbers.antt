@@ -1,5 +1,6 @@
 -- What C names by numbers.
-use Rattle.msrp_plan.specs.Common.{ℕ, List, Option, Some, None, ◌==◌, if◌then◌else◌, ascending, PlanModel}
+use Rattle.std.specs.Prelude.{◌==◌, if◌then◌else◌}
+use Rattle.msrp_plan.specs.Common.{ℕ, List, Option, Some, None, ascending, PlanModel}
 use Rattle.msrp_plan.specs.declared.rows.TextVersion.{TextVersion}
 use Rattle.msrp_plan.specs.declared.rows.TextVersion.TheVariants.{V1, V2}
 use Rattle.msrp_picture.specs.declared.windows.Asked.{Asked}

@@ -1,5 +1,6 @@
 -- The picture of a trace, in a style that is named.
-use Rattle.msrp_plan.specs.Common.{◌≡◌, ℕ, List, Option, Some, None, Result, PlanModel}
+use Rattle.std.specs.Prelude.{◌≡◌}
+use Rattle.msrp_plan.specs.Common.{ℕ, List, Option, Some, None, Result, PlanModel}
 use Rattle.std.specs.declared.result.Result.TheVariants.{Err}
 use Rattle.msrp_view_engine.specs.Views.{IsPictureOf}
 use Rattle.msrp_faults.specs.declared.faults.CliFault.{CliFault}

@@ -1,5 +1,6 @@
 -- The texts that are made of a plan's text.
-use Rattle.msrp_plan.specs.Common.{◌≡◌, ◌⊎◌, ℕ, List, Option, Some, None, Result, PlanModel, IsOrder}
+use Rattle.std.specs.Prelude.{◌≡◌, ◌⊎◌}
+use Rattle.msrp_plan.specs.Common.{ℕ, List, Option, Some, None, Result, PlanModel, IsOrder}
 use Rattle.msrp_plan.specs.declared.rows.Row.{Row}
 use Rattle.msrp_plan.specs.declared.rows.TextVersion.{TextVersion}
 use Rattle.std.specs.declared.result.Result.TheVariants.{Ok, Err}

@@ -1,5 +1,6 @@
 -- Rows as numbers, and what is found in them.
-use Rattle.msrp_plan.specs.Common.{◌+◌, ◌==◌, if◌then◌else◌, ℕ, Bool, List, Option, Some, None, option_map, slice_get, map, ⊤, filter_map, prefix_len, option_and_then, Result, PlanModel, fault_in, verdict}
+use Rattle.std.specs.Prelude.{◌+◌, ◌==◌, if◌then◌else◌}
+use Rattle.msrp_plan.specs.Common.{ℕ, Bool, List, Option, Some, None, option_map, slice_get, map, ⊤, filter_map, prefix_len, option_and_then, Result, PlanModel, fault_in, verdict}
 use Rattle.msrp_plan.specs.declared.faults.Fault.{Fault}
 use Rattle.msrp_plan.specs.declared.ids.JobId.{JobId}
 use Rattle.msrp_plan.specs.declared.rows.Kind.{Kind}

@@ -1,5 +1,6 @@
 //! What a call tells: its status, the numbers of what was found, and a text.
-ghost use Rattle.msrp_plan.specs.Common.{◌≡◌, ◌≤◌, ◌<◌, ◌++◌, ◌||◌, length, drop, true, false};
+ghost use Rattle.std.specs.Prelude.{◌≡◌, ◌≤◌, ◌<◌, ◌++◌, ◌||◌};
+ghost use Rattle.msrp_plan.specs.Common.{length, drop, true, false};
 ghost use Rattle.msrp_c.specs.Answers.{Hands, HandsOver, Puts, Tells, is_long, numbers_of, or_memory, rule_number, status_told, unfailed};
 
 use msrp_audit::{Fault, Rule};

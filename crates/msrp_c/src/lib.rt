@@ -3,7 +3,7 @@
 //! No call keeps anything, prints, or starts a thread. The header is `include/msrp.h`, and docs/C.md tells what a caller has to keep.
 #![tactic(auto)]
 
-ghost use Rattle.msrp_plan.specs.Common.{◌≡◌};
+ghost use Rattle.std.specs.Prelude.{◌≡◌};
 
 mod answers;
 mod audits;

@@ -1,5 +1,6 @@
 //! Orders, versions and styles as numbers.
-ghost use Rattle.msrp_plan.specs.Common.{◌≡◌, ◌⊎◌, Some, None, IfOk, IfErr};
+ghost use Rattle.std.specs.Prelude.{◌≡◌, ◌⊎◌};
+ghost use Rattle.msrp_plan.specs.Common.{Some, None, IfOk, IfErr};
 ghost use Rattle.msrp_faults.specs.declared.faults.CliFault.{CliFault};
 ghost use Rattle.msrp_sim.specs.Orders.{cores_of};
 ghost use Rattle.msrp_c.specs.Numbers.{style_named, turns_named, version_named};

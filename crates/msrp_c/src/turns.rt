@@ -1,5 +1,6 @@
 //! Rows as numbers, and the verdict on them.
-ghost use Rattle.msrp_plan.specs.Common.{◌≡◌, [], true, map, option_map, has_shape, may_carry};
+ghost use Rattle.std.specs.Prelude.{◌≡◌};
+ghost use Rattle.msrp_plan.specs.Common.{[], true, map, option_map, has_shape, may_carry};
 ghost use Rattle.msrp_audit.specs.Audits.{HasFed};
 ghost use Rattle.msrp_plan.specs.declared.ids.ResId.{ResId as Resource};
 ghost use Rattle.msrp_trace.specs.Rows.{row_with};

@@ -1,5 +1,6 @@
 //! Words on a trace, and on a plan.
-ghost use Rattle.msrp_plan.specs.Common.{◌≡◌, ◌⊎◌, ◌||◌, Ok, Err};
+ghost use Rattle.std.specs.Prelude.{◌≡◌, ◌⊎◌, ◌||◌};
+ghost use Rattle.msrp_plan.specs.Common.{Ok, Err};
 ghost use Rattle.msrp_text.specs.Reading.{csv_records, plan_of};
 ghost use Rattle.msrp_view_engine.specs.Whys.{IsWhyOf};
 ghost use Rattle.msrp_engine.specs.Answered.{OrUnread};

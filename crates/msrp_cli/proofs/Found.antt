@@ -1,6 +1,6 @@
 -- What the parser found is what its rows say.
-use Rattle.msrp_plan.proofs.Common.{◌≡◌, ◌∙◌, Bool, true, false, Option, Some, None, option_map, slice_get, refl, ap, sym, bytes_eq, slice_get-map}
-use Rattle.std.proofs.Common.{◌↔◌, find, option_and_then}
+use Rattle.msrp_plan.proofs.Common.{Bool, true, false, Option, Some, None, option_map, slice_get, refl, ap, sym, bytes_eq, slice_get-map}
+use Rattle.std.proofs.Common.{◌≡◌, ◌∙◌, ◌↔◌, find, option_and_then}
 use Rattle.clap.proofs.WalkLemmas.{find_row}
 use Rattle.clap.specs.Facts.{Entry}
 use Rattle.clap.specs.Matches.{matched_of}

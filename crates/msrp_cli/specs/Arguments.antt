@@ -1,6 +1,6 @@
 -- The arguments of a command line, and what the words give them.
-use Rattle.msrp_plan.specs.Common.{◌&&◌, Bool, true, false, List, Option, Some, None, codes, find, if◌then◌else◌, Ok, Err, bytes_eq}
-use Rattle.std.specs.Prelude.{option_and_then, Result}
+use Rattle.msrp_plan.specs.Common.{Bool, true, false, List, Option, Some, None, codes, find, Ok, Err, bytes_eq}
+use Rattle.std.specs.Prelude.{◌&&◌, if◌then◌else◌, option_and_then, Result}
 use Rattle.clap.specs.Words.{Row, Rule, Text, first_of, new_rule}
 use Rattle.clap.specs.declared.builder.action.ArgAction.TheVariants.{SetTrue}
 use Rattle.clap.specs.declared.error.kind.ErrorKind.{ErrorKind}

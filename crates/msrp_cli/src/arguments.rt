@@ -1,6 +1,7 @@
 //! The arguments of a command line: how they are declared, and what the words give them.
 
-ghost use Rattle.msrp_plan.specs.Common.{◌≡◌, false, ok_or, option_map, IfOk, Some};
+ghost use Rattle.std.specs.Prelude.{◌≡◌};
+ghost use Rattle.msrp_plan.specs.Common.{false, ok_or, option_map, IfOk, Some};
 ghost use Rattle.std.specs.Result.{result_map_both};
 ghost use Rattle.clap.specs.Words.{App, Rule, app_of, first_of, found_of, rows_of, rule_of, with_rule};
 ghost use Rattle.msrp_cli.specs.Arguments as argument;

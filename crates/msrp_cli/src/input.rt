@@ -1,6 +1,7 @@
 //! What a text is read from.
 
-ghost use Rattle.msrp_plan.specs.Common.{◌≡◌, ◌↔◌, codes, IfErr, IfOk, true};
+ghost use Rattle.std.specs.Prelude.{◌≡◌, ◌↔◌};
+ghost use Rattle.msrp_plan.specs.Common.{codes, IfErr, IfOk, true};
 ghost use Rattle.msrp_cli.specs.Inputs.{is_standard};
 
 use msrp_faults::CliFault;

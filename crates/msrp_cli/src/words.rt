@@ -1,8 +1,8 @@
 //! The words of the command line.
 
 ghost use Rattle.std.specs.IoError.{error_kind};
-ghost use Rattle.msrp_plan.specs.Common.{◌≡◌, ◌⊎◌, ◌↔◌, IfErr, IfOk};
-ghost use Rattle.std.specs.Prelude.{IsErrAnd};
+ghost use Rattle.msrp_plan.specs.Common.{IfErr, IfOk};
+ghost use Rattle.std.specs.Prelude.{◌≡◌, ◌⊎◌, ◌↔◌, IsErrAnd};
 
 use msrp_faults::CliFault;
 use std::alloc::Global;

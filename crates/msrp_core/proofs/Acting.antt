@@ -1,5 +1,6 @@
 -- An action of the running job, over what is stored of the jobs of a core.
-use Rattle.msrp_plan.proofs.Common.{◌≡◌, ℕ, ◌+◌, ◌<◌, ◌≤◌, Bool, true, false, cond, nat_eq, ◌&&◌, List, [], ◌∷◌, Option, Some, refl, ap, sym, ◌∙◌, subst, arith, length, slice_get, vec_capacity, list_any, AllByRecursion, Contains, true≢false, and_from, false_from_ne_true, ForSome, PlanModel, units, jobs_on, is_waiting, IsPlan, is_global, same_res, res_of_unit, is_global_unit, allows, does_unit, phase_with, state_with}
+use Rattle.std.proofs.Common.{◌≡◌, ◌+◌, ◌<◌, ◌≤◌, ◌&&◌, ◌∷◌, ◌∙◌}
+use Rattle.msrp_plan.proofs.Common.{ℕ, Bool, true, false, cond, nat_eq, List, [], Option, Some, refl, ap, sym, subst, arith, length, slice_get, vec_capacity, list_any, AllByRecursion, Contains, true≢false, and_from, false_from_ne_true, ForSome, PlanModel, units, jobs_on, is_waiting, IsPlan, is_global, same_res, res_of_unit, is_global_unit, allows, does_unit, phase_with, state_with}
 use Rattle.msrp_plan.specs.declared.ids.CoreId.{CoreId}
 use Rattle.msrp_plan.specs.declared.ids.JobId.{JobId}
 use Rattle.msrp_plan.specs.declared.ids.ResId.{ResId}

@@ -1,5 +1,6 @@
 -- A core whose last row stands again.
-use Rattle.msrp_plan.proofs.Common.{◌%◌, ◌^◌, reverse, ◌≡◌, ℕ, ◌+◌, ◌-◌, ◌<◌, ◌≤◌, ◌==◌, ◌&&◌, Some, None, Option, slice_get, Bool, false, not, cond, List, [], ◌∷◌, ◌++◌, nat_le, refl, ap, sym, ◌∙◌, subst, arith, length, length-append, true, IfSome, Contains, ForSome, option_or, true≢false, and-true, eqb-false, leb-false, le-leb, lt-leb, false_from_ne_true, none-some, same_Some, PlanModel, units, release, jobs_on, is_queued, done, choice, phase_with, IsCoreTurn, has_shape, may_carry, JobState, state_after, in_tick, is_global, known_task, same_row, any_in}
+use Rattle.std.proofs.Common.{◌%◌, ◌^◌, ◌≡◌, ◌+◌, ◌-◌, ◌<◌, ◌≤◌, ◌==◌, ◌&&◌, ◌∷◌, ◌++◌, ◌∙◌}
+use Rattle.msrp_plan.proofs.Common.{reverse, ℕ, Some, None, Option, slice_get, Bool, false, not, cond, List, [], nat_le, refl, ap, sym, subst, arith, length, length-append, true, IfSome, Contains, ForSome, option_or, true≢false, and-true, eqb-false, leb-false, le-leb, lt-leb, false_from_ne_true, none-some, same_Some, PlanModel, units, release, jobs_on, is_queued, done, choice, phase_with, IsCoreTurn, has_shape, may_carry, JobState, state_after, in_tick, is_global, known_task, same_row, any_in}
 use Rattle.msrp_plan.specs.declared.ids.JobId.{JobId}
 use Rattle.msrp_plan.specs.declared.ids.CoreId.{CoreId}
 use Rattle.msrp_plan.specs.declared.ids.ResId.{ResId}

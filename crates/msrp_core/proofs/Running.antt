@@ -1,5 +1,6 @@
 -- What is stored of the jobs of a core: who runs, who is chosen, and a job that starts.
-use Rattle.msrp_plan.proofs.Common.{◌≡◌, ◌≢◌, ℕ, ◌+◌, ◌<◌, ◌≤◌, ◌==◌, Bool, true, false, cond, not, nat_eq, nat_lt, max, ◌⊎◌, ◌&&◌, ◌||◌, List, [], ◌∷◌, ◌++◌, Option, Some, None, refl, ap, sym, ◌∙◌, subst, arith, length, length-append, map, reverse, inl, inr, ◌-◌, Vec, Global, vec_capacity, list_any, filter, AllByRecursion, Contains, ForSome, true≢false, and-true, and-false, or-true, or-false, cases_Bool, ltb-true, and_from, and_parts, false_from_ne_true, not-true, or_parts, length-map, none-some, same_Some, PlanModel, units, no_task, release, jobs_on, same_job, is_job, is_released, level, is_global, local_ceiling, greatest, resources, raised_with, ceiling_with, is_before, first_ready, first_unfinished, choice, comes_first, JobState, state_after, IsPlan, all_weaker, any_in, least_in, least_of_those, least_passes, before_order, same_is, same_self, same_symm, on_its_core, known_task}
+use Rattle.std.proofs.Common.{◌≡◌, ◌≢◌, ◌+◌, ◌<◌, ◌≤◌, ◌==◌, ◌⊎◌, ◌&&◌, ◌||◌, ◌∷◌, ◌++◌, ◌∙◌, ◌-◌}
+use Rattle.msrp_plan.proofs.Common.{ℕ, Bool, true, false, cond, not, nat_eq, nat_lt, max, List, [], Option, Some, None, refl, ap, sym, subst, arith, length, length-append, map, reverse, inl, inr, Vec, Global, vec_capacity, list_any, filter, AllByRecursion, Contains, ForSome, true≢false, and-true, and-false, or-true, or-false, cases_Bool, ltb-true, and_from, and_parts, false_from_ne_true, not-true, or_parts, length-map, none-some, same_Some, PlanModel, units, no_task, release, jobs_on, same_job, is_job, is_released, level, is_global, local_ceiling, greatest, resources, raised_with, ceiling_with, is_before, first_ready, first_unfinished, choice, comes_first, JobState, state_after, IsPlan, all_weaker, any_in, least_in, least_of_those, least_passes, before_order, same_is, same_self, same_symm, on_its_core, known_task}
 use Rattle.std.specs.List.{IsDistinct}
 use Rattle.msrp_plan.specs.declared.ids.JobId.{JobId}
 use Rattle.msrp_plan.specs.declared.rows.Row.{Row}

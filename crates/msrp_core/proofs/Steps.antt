@@ -1,5 +1,6 @@
 -- The active jobs of a core after one action of the newest.
-use Rattle.msrp_plan.proofs.Common.{◌≡◌, ℕ, ◌+◌, ◌<◌, ◌==◌, ◌⊎◌, Bool, true, false, cond, not, nat_eq, ◌&&◌, ◌||◌, List, [], ◌∷◌, Option, Some, refl, ap, sym, ◌∙◌, subst, arith, length, take, slice_get, inl, inr, list_any, true≢false, or-true, and-false, cases_Bool, eqb-false, le-ltb, false_from_ne_true, PlanModel, units, task_of, held_after, holds_after, jobs_on, same_job, is_job, is_waiting, is_global, state_with, IsPlan, same_is, same_self, core_jobs_below, units_lock, held_unlock}
+use Rattle.std.proofs.Common.{◌≡◌, ◌+◌, ◌<◌, ◌==◌, ◌⊎◌, ◌&&◌, ◌||◌, ◌∷◌, ◌∙◌}
+use Rattle.msrp_plan.proofs.Common.{ℕ, Bool, true, false, cond, not, nat_eq, List, [], Option, Some, refl, ap, sym, subst, arith, length, take, slice_get, inl, inr, list_any, true≢false, or-true, and-false, cases_Bool, eqb-false, le-ltb, false_from_ne_true, PlanModel, units, task_of, held_after, holds_after, jobs_on, same_job, is_job, is_waiting, is_global, state_with, IsPlan, same_is, same_self, core_jobs_below, units_lock, held_unlock}
 use Rattle.msrp_plan.specs.declared.ids.JobId.{JobId}
 use Rattle.msrp_plan.specs.declared.ids.ResId.{ResId}
 use Rattle.msrp_plan.specs.declared.rows.Row.{Row}

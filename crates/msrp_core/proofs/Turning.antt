@@ -1,5 +1,6 @@
 -- A turn of a machine: its row is the next one of whatever log the machine stands after.
-use Rattle.msrp_plan.proofs.Common.{◌≡◌, ℕ, Bool, true, false, cond, ◌||◌, List, [], ◌∷◌, ◌++◌, Option, Some, None, refl, ap, sym, ◌∙◌, subst, length, map, inl, inr, list_any, AllByRecursion, Contains, ForSome, or-false, cases_Bool, fold_push, jobs_on, same_job, is_job, choice, does_next, is_idle, phase_with, phase_after, IsCoreTurn, is_on_core, same_choice, JobState, state_after, state_with, same_self, any_in}
+use Rattle.std.proofs.Common.{◌≡◌, ◌||◌, ◌∷◌, ◌++◌, ◌∙◌}
+use Rattle.msrp_plan.proofs.Common.{ℕ, Bool, true, false, cond, List, [], Option, Some, None, refl, ap, sym, subst, length, map, inl, inr, list_any, AllByRecursion, Contains, ForSome, or-false, cases_Bool, fold_push, jobs_on, same_job, is_job, choice, does_next, is_idle, phase_with, phase_after, IsCoreTurn, is_on_core, same_choice, JobState, state_after, state_with, same_self, any_in}
 use Rattle.msrp_plan.specs.declared.ids.CoreId.{CoreId}
 use Rattle.msrp_plan.specs.declared.ids.JobId.{JobId}
 use Rattle.msrp_plan.specs.declared.rows.Kind.{Kind}

@@ -1,5 +1,6 @@
 -- What is done in a turn, and the rows that tell it.
-use Rattle.msrp_plan.specs.Common.{ℕ, Option, ◌≡◌}
+use Rattle.std.specs.Prelude.{◌≡◌}
+use Rattle.msrp_plan.specs.Common.{ℕ, Option}
 use Rattle.msrp_plan.specs.declared.ids.CoreId.{CoreId}
 use Rattle.msrp_plan.specs.declared.ids.JobId.{JobId}
 use Rattle.msrp_plan.specs.declared.rows.Row.{Row}

@@ -1,6 +1,7 @@
 -- The jobs of a core between two of its turns: which are active, that is started and not finished, what each of these
 -- holds, and how many of its units it has done.
-use Rattle.msrp_plan.specs.Common.{ℕ, List, [], ◌∷◌, Bool, true, false, nat_eq, ◌==◌, ◌&&◌, Some, length, take, slice_get, ◌≡◌, ◌<◌, ◌+◌, ⊤, if◌then◌else◌, list_any, AllByRecursion, Contains, PlanModel, units, held_after, jobs_on, same_job, is_global, JobState}
+use Rattle.std.specs.Prelude.{◌∷◌, ◌==◌, ◌&&◌, ◌≡◌, ◌<◌, ◌+◌, if◌then◌else◌}
+use Rattle.msrp_plan.specs.Common.{ℕ, List, [], Bool, true, false, nat_eq, Some, length, take, slice_get, ⊤, list_any, AllByRecursion, Contains, PlanModel, units, held_after, jobs_on, same_job, is_global, JobState}
 use Rattle.msrp_plan.specs.declared.ids.JobId.{JobId}
 use Rattle.msrp_plan.specs.declared.ids.ResId.{ResId}
 use Rattle.msrp_plan.specs.declared.units.Phase.{Phase}

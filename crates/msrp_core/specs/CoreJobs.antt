@@ -1,5 +1,6 @@
 -- The jobs of a core as they are stored, and what a turn does to them.
-use Rattle.msrp_plan.specs.Common.{ℕ, List, ◌∷◌, true, Option, Some, None, nat_lt, ◌&&◌, ◌||◌, Bool, length, reverse, slice_get, vec_capacity, ◌≡◌, ◌<◌, ◌≤◌, if◌then◌else◌, AllByRecursion, Contains, ForSome, PlanModel, units, jobs_on, is_job, level, comes_first, does_unit_after, JobState, state_after, IsPlan}
+use Rattle.std.specs.Prelude.{◌∷◌, ◌&&◌, ◌||◌, ◌≡◌, ◌<◌, ◌≤◌, if◌then◌else◌}
+use Rattle.msrp_plan.specs.Common.{ℕ, List, true, Option, Some, None, nat_lt, Bool, length, reverse, slice_get, vec_capacity, AllByRecursion, Contains, ForSome, PlanModel, units, jobs_on, is_job, level, comes_first, does_unit_after, JobState, state_after, IsPlan}
 use Rattle.msrp_plan.specs.declared.ids.JobId.{JobId}
 use Rattle.msrp_plan.specs.declared.rows.Kind.TheVariants.{Idle}
 use Rattle.msrp_plan.specs.declared.rows.Row.{Row}

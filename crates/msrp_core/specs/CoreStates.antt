@@ -1,5 +1,6 @@
 -- What decides who has the turn of a core, by the definitions.
-use Rattle.msrp_plan.specs.Common.{ℕ, List, ◌≡◌, ◌<◌, ◌≤◌, Contains, ForSome, PlanModel, release}
+use Rattle.std.specs.Prelude.{◌≡◌, ◌<◌, ◌≤◌}
+use Rattle.msrp_plan.specs.Common.{ℕ, List, Contains, ForSome, PlanModel, release}
 use Rattle.msrp_plan.specs.declared.ids.JobId.{JobId}
 use Rattle.msrp_plan.specs.declared.rows.Row.{Row}
 use Rattle.msrp_plan.specs.Ceiling as ceilings

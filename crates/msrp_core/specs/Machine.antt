@@ -1,5 +1,6 @@
 -- The machine of one core, and the logs that it stands after.
-use Rattle.msrp_plan.specs.Common.{ℕ, List, Option, Some, None, IfSome, true, map, length, ◌≡◌, option_or, PlanModel, jobs_on, is_global, JobState, state_after, in_tick}
+use Rattle.std.specs.Prelude.{◌≡◌}
+use Rattle.msrp_plan.specs.Common.{ℕ, List, Option, Some, None, IfSome, true, map, length, option_or, PlanModel, jobs_on, is_global, JobState, state_after, in_tick}
 use Rattle.msrp_plan.specs.declared.ids.ResId.{ResId}
 use Rattle.msrp_plan.specs.declared.rows.Kind.TheVariants.{Spin}
 use Rattle.msrp_plan.specs.declared.rows.Row.{Row}

@@ -1,5 +1,6 @@
 -- What a clause sees of a machine, and what its fields keep.
-use Rattle.msrp_plan.specs.Common.{ℕ, List, [], ◌∷◌, ◌++◌, Some, None, false, map, ◌==◌, ◌≡◌, ◌≤◌, ◌<◌, ◌+◌, if◌then◌else◌, ForSome, jobs_on, is_queued, IsCoreTurn}
+use Rattle.std.specs.Prelude.{◌∷◌, ◌++◌, ◌==◌, ◌≡◌, ◌≤◌, ◌<◌, ◌+◌, if◌then◌else◌}
+use Rattle.msrp_plan.specs.Common.{ℕ, List, [], Some, None, false, map, ForSome, jobs_on, is_queued, IsCoreTurn}
 use Rattle.msrp_plan.specs.declared.rows.Row.{Row}
 use Rattle.msrp_plan.specs.declared.units.Phase.TheVariants.{Queued}
 use Rattle.msrp_ready.specs.Ready.{has_release_by}

@@ -1,12 +1,12 @@
 -- Ports: the calls that were made of a port, one call more, and the row that it makes.
-use Rattle.msrp_plan.specs.Common.{ℕ, List, [], ◌∷◌, ◌++◌, false, true, ◌==◌, Some, ◌≡◌, ◌≢◌, ◌≤◌, ◌+◌, map, ⊤, PlanModel, is_global, ResCall, claim_after, kind_of_call, ahead_of_call}
+use Rattle.msrp_plan.specs.Common.{ℕ, List, [], false, true, Some, map, ⊤, PlanModel, is_global, ResCall, claim_after, kind_of_call, ahead_of_call}
 use Rattle.msrp_plan.specs.declared.ids.CoreId.{CoreId}
 use Rattle.msrp_plan.specs.declared.ids.ResId.{ResId}
 use Rattle.msrp_plan.specs.declared.rows.Row.{Row}
 use Rattle.msrp_plan.specs.declared.units.Call.{Call}
 use Rattle.msrp_plan.specs.declared.units.Call.TheVariants.{Ask}
 use Rattle.msrp_plan.specs.declared.units.Phase.{Phase}
-use Rattle.std.specs.Prelude.{filter}
+use Rattle.std.specs.Prelude.{◌∷◌, ◌++◌, ◌==◌, ◌≡◌, ◌≢◌, ◌≤◌, ◌+◌, filter}
 use Rattle.msrp_core.specs.declared.port.PortCall.{PortCall}
 use Rattle.msrp_core.specs.declared.port.Reply.{Reply}
 use Rattle.msrp_core.specs.declared.port.Reply.TheVariants.{Taken, Queued}

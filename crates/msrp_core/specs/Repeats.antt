@@ -1,11 +1,11 @@
 -- A core whose last row stands again, as it is stored.
-use Rattle.msrp_plan.specs.Common.{ℕ, [], Option, Some, None, length, ◌≡◌, ◌<◌, ◌+◌, units, HasWork}
+use Rattle.msrp_plan.specs.Common.{ℕ, [], Option, Some, None, length, units, HasWork}
 use Rattle.msrp_plan.specs.declared.ids.CoreId.{CoreId}
 use Rattle.msrp_plan.specs.declared.ids.JobId.{JobId}
 use Rattle.msrp_plan.specs.declared.rows.Kind.{Kind}
 use Rattle.msrp_plan.specs.declared.rows.Kind.TheVariants.{Idle, Run, Spin}
 use Rattle.msrp_plan.specs.declared.rows.Row.{Row}
-use Rattle.std.specs.Prelude.{refl}
+use Rattle.std.specs.Prelude.{◌≡◌, ◌<◌, ◌+◌, refl}
 use Rattle.std.specs.Option.{option_map}
 use Rattle.msrp_core.specs.CoreJobs.{IsRunning}
 use Rattle.msrp_core.specs.declared.jobs.Jobs.{Jobs}

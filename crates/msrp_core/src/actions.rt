@@ -1,5 +1,6 @@
 //! What the running job does in its turn: its next unit, or the wait for it.
-ghost use Rattle.msrp_plan.specs.Common.{◌≡◌, ◌≤◌, List, Some, None, true, false, length, Contains, ForSome, allows, jobs_on, is_global, IsCoreTurn, has_shape, may_carry};
+ghost use Rattle.std.specs.Prelude.{◌≡◌, ◌≤◌};
+ghost use Rattle.msrp_plan.specs.Common.{List, Some, None, true, false, length, Contains, ForSome, allows, jobs_on, is_global, IsCoreTurn, has_shape, may_carry};
 ghost use Rattle.msrp_plan.specs.declared.ids.ResId.{ResId as Resource};
 ghost use Rattle.msrp_plan.specs.declared.rows.Row.{Row as TraceRow};
 ghost use Rattle.msrp_ready.specs.Ready.{is_among};

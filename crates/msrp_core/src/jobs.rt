@@ -1,5 +1,6 @@
 //! The jobs of a core between two of its turns: which are ready, which are started, and how far these are.
-ghost use Rattle.msrp_plan.specs.Common.{◌≡◌, ◌<◌, ◌≤◌, ◌+◌, ◌||◌, [], ◌∷◌, ℕ, List, Some, None, true, false, length, reverse, IfOk, slice_get, vec_capacity, ForSome, option_or, Contains, release, units, jobs_on, is_job, choice, comes_first, is_global};
+ghost use Rattle.std.specs.Prelude.{◌≡◌, ◌<◌, ◌≤◌, ◌+◌, ◌||◌, ◌∷◌};
+ghost use Rattle.msrp_plan.specs.Common.{[], ℕ, List, Some, None, true, false, length, reverse, IfOk, slice_get, vec_capacity, ForSome, option_or, Contains, release, units, jobs_on, is_job, choice, comes_first, is_global};
 ghost use Rattle.std.specs.Option.{IfSome};
 ghost use Rattle.msrp_plan.specs.Choice.{first_ready};
 ghost use Rattle.msrp_plan.specs.declared.ids.JobId.{JobId as Job};

@@ -1,5 +1,6 @@
 //! The machine of one core, which makes the rows of its turns.
-ghost use Rattle.msrp_plan.specs.Common.{◌≡◌, ◌<◌, ◌≤◌, ◌+◌, ◌++◌, ◌∷◌, [], List, Some, None, IfOk, IfSome, IfNone, length, true, IsSomeAnd, is_global, IsCoreTurn};
+ghost use Rattle.std.specs.Prelude.{◌≡◌, ◌<◌, ◌≤◌, ◌+◌, ◌++◌, ◌∷◌};
+ghost use Rattle.msrp_plan.specs.Common.{[], List, Some, None, IfOk, IfSome, IfNone, length, true, IsSomeAnd, is_global, IsCoreTurn};
 ghost use Rattle.std.specs.Option.{is_some};
 ghost use Rattle.msrp_plan.specs.declared.ids.ResId.{ResId as Resource};
 ghost use Rattle.msrp_plan.specs.declared.rows.Row.{Row as TraceRow};

@@ -1,5 +1,5 @@
 //! What a core asks of the global resources, whoever answers.
-ghost use Rattle.msrp_plan.specs.Common.{◌≡◌, ◌<◌};
+ghost use Rattle.std.specs.Prelude.{◌≡◌, ◌<◌};
 ghost use Rattle.msrp_core.specs.Ports.{Adds, HasAhead, asked, claim_in};
 
 use msrp_plan::{Call, CoreId, Phase, ResId};

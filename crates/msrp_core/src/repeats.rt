@@ -1,5 +1,6 @@
 //! Turns whose row is the last one again: the running job is in a run of work, or the core idles, and nobody is released.
-ghost use Rattle.msrp_plan.specs.Common.{◌≡◌, ◌<◌, ◌≤◌, ◌+◌, ◌%◌, ◌^◌, ◌∷◌, [], ℕ, List, Some, None, false, length, ForSome, units, HasWork};
+ghost use Rattle.std.specs.Prelude.{◌≡◌, ◌<◌, ◌≤◌, ◌+◌, ◌%◌, ◌^◌, ◌∷◌};
+ghost use Rattle.msrp_plan.specs.Common.{[], ℕ, List, Some, None, false, length, ForSome, units, HasWork};
 ghost use Rattle.msrp_ready.specs.Ready.{has_release_by};
 ghost use Rattle.msrp_core.specs.Active.{ActiveJob, advanced};
 ghost use Rattle.msrp_core.specs.CoreJobs.{ActsFor, AreJobs, CanAct, Acts, IsRunning, active_in};

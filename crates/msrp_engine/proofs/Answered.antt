@@ -1,5 +1,6 @@
 -- What holds of what was made holds of what is answered.
-use Rattle.msrp_plan.proofs.Common.{◌≡◌, subst, sym, inl, inr, Ok, PlanModel}
+use Rattle.std.proofs.Common.{◌≡◌}
+use Rattle.msrp_plan.proofs.Common.{subst, sym, inl, inr, Ok, PlanModel}
 use Rattle.std.specs.declared.result.Result.{Result}
 use Rattle.msrp_text.specs.Reading.{Answers}
 use Rattle.msrp_text.specs.declared.reading.TextError.{TextError}

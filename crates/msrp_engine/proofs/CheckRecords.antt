@@ -1,5 +1,6 @@
 -- The records of a check, as they are written.
-use Rattle.msrp_plan.proofs.Common.{◌≡◌, ℕ, ◌+◌, true, false, cond, List, [], ◌∷◌, ◌++◌, Option, ap, sym, ◌∙◌, codes, decimal, slice_index_or, if◌then◌else◌, Wrote, is_global, local_ceiling, top, PlanModel, flat_more, wrote-more}
+use Rattle.std.proofs.Common.{◌≡◌, ◌+◌, ◌∷◌, ◌++◌, ◌∙◌, if◌then◌else◌}
+use Rattle.msrp_plan.proofs.Common.{ℕ, true, false, cond, List, [], Option, ap, sym, codes, decimal, slice_index_or, Wrote, is_global, local_ceiling, top, PlanModel, flat_more, wrote-more}
 use Rattle.msrp_plan.specs.declared.bytes.Sink.{Sink}
 use Rattle.msrp_levels.specs.Users.{ceiling_at}
 use Rattle.msrp_text.specs.PlanText.{record_text}

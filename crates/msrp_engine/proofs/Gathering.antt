@@ -1,5 +1,6 @@
 -- Rows that are gathered before they are judged.
-use Rattle.msrp_plan.proofs.Common.{◌≡◌, ◌++◌, [], ◌≤◌, ◌+◌, ◌*◌, ℕ, Bool, true, false, cond, length, List, Option, None, Some, option_map, refl, ap, sym, subst, ◌∙◌, inl, inr, append-nil, arith, ◌-◌, le-ltb, option_or, ⊤, nat_lt, PlanModel, is_chosen, is_fifo_reply, is_in_turn, is_next_action, is_of_core, fault_in, missing, verdict, early_is, good_is_run}
+use Rattle.std.proofs.Common.{◌≡◌, ◌++◌, ◌≤◌, ◌+◌, ◌*◌, ◌∙◌, ◌-◌}
+use Rattle.msrp_plan.proofs.Common.{[], ℕ, Bool, true, false, cond, length, List, Option, None, Some, option_map, refl, ap, sym, subst, inl, inr, append-nil, arith, le-ltb, option_or, ⊤, nat_lt, PlanModel, is_chosen, is_fifo_reply, is_in_turn, is_next_action, is_of_core, fault_in, missing, verdict, early_is, good_is_run}
 use Rattle.msrp_plan.specs.declared.faults.Fault.{Fault}
 use Rattle.msrp_plan.specs.declared.faults.Rule.{Rule}
 use Rattle.msrp_plan.specs.declared.faults.Rule.TheVariants.{A1, A2, A3, A4, A5, A6, A7}

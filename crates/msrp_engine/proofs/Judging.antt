@@ -1,5 +1,6 @@
 -- What is found in rows that are judged as they come.
-use Rattle.msrp_plan.proofs.Common.{◌≡◌, ◌⊎◌, ◌++◌, ◌∷◌, [], ℕ, ◌+◌, ◌-◌, ◌*◌, ◌<◌, cond, length, List, Option, None, Some, refl, ap, sym, subst, ◌∙◌, inl, inr, arith, cases_lt, le-ltb, ⊤, PlanModel, broken, fault_in, fault_or, verdict, fault_push, fault_stays}
+use Rattle.std.proofs.Common.{◌≡◌, ◌⊎◌, ◌++◌, ◌∷◌, ◌+◌, ◌-◌, ◌*◌, ◌<◌, ◌∙◌}
+use Rattle.msrp_plan.proofs.Common.{[], ℕ, cond, length, List, Option, None, Some, refl, ap, sym, subst, inl, inr, arith, cases_lt, le-ltb, ⊤, PlanModel, broken, fault_in, fault_or, verdict, fault_push, fault_stays}
 use Rattle.msrp_plan.specs.declared.faults.Fault.{Fault}
 use Rattle.msrp_plan.specs.declared.faults.Rule.TheVariants.{A7}
 use Rattle.msrp_plan.specs.declared.rows.Row.{Row}

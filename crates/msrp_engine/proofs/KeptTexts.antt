@@ -1,5 +1,6 @@
 -- The texts of the cores' rows, as rows are judged.
-use Rattle.msrp_plan.proofs.Common.{◌≡◌, ◌≢◌, ℕ, ◌<◌, ◌≤◌, ◌%◌, ◌==◌, [], Bool, true, false, List, Option, Some, None, IfSome, IfNone, ap, sym, ◌∙◌, subst, arith, eqb-true, slice_set, refl, mod-eq_of_lt, and_from, and_parts, eqb-false, PlanModel, in_tick, IsPlan, turn_of}
+use Rattle.std.proofs.Common.{◌≡◌, ◌≢◌, ◌<◌, ◌≤◌, ◌%◌, ◌==◌, ◌∙◌}
+use Rattle.msrp_plan.proofs.Common.{ℕ, [], Bool, true, false, List, Option, Some, None, IfSome, IfNone, ap, sym, subst, arith, eqb-true, slice_set, refl, mod-eq_of_lt, and_from, and_parts, eqb-false, PlanModel, in_tick, IsPlan, turn_of}
 use Rattle.msrp_plan.specs.declared.rows.Row.{Row}
 use Rattle.msrp_plan.specs.declared.rows.TextVersion.{TextVersion}
 use Rattle.msrp_plan.specs.declared.rows.TextVersion.TheVariants.{V1, V2}

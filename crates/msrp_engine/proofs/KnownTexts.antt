@@ -1,5 +1,6 @@
 -- The texts that are kept of the rows that cores are known to make.
-use Rattle.msrp_plan.proofs.Common.{◌≡◌, ◌≢◌, ℕ, ◌<◌, ◌≤◌, ◌%◌, ◌==◌, Bool, true, false, List, [], ◌∷◌, ◌++◌, Option, Some, None, IfSome, ap, sym, ◌∙◌, subst, arith, eqb-true, slice_set, refl, mod-eq_of_lt, eqb-false, get_or-set_other, PlanModel, IsLegal, IsRunStart, in_tick, legal_due, each_at}
+use Rattle.std.proofs.Common.{◌≡◌, ◌≢◌, ◌<◌, ◌≤◌, ◌%◌, ◌==◌, ◌∷◌, ◌++◌, ◌∙◌}
+use Rattle.msrp_plan.proofs.Common.{ℕ, Bool, true, false, List, [], Option, Some, None, IfSome, ap, sym, subst, arith, eqb-true, slice_set, refl, mod-eq_of_lt, eqb-false, get_or-set_other, PlanModel, IsLegal, IsRunStart, in_tick, legal_due, each_at}
 use Rattle.msrp_plan.specs.declared.rows.Row.{Row}
 use Rattle.msrp_sim.specs.Cores.{Leaves, known_row}
 use Rattle.msrp_sim.specs.Simulated.{SimModel, HasMade}

@@ -1,5 +1,6 @@
 -- The newest row of a simulation names what the plan has; the text of one row more.
-use Rattle.msrp_plan.proofs.Common.{◌≡◌, true, List, [], ◌∷◌, ◌++◌, ap, sym, ◌∙◌, subst, append-nil, PlanModel, IsPlan, IsLegal, IsRun, IsRunStart, legal_turn, each_at}
+use Rattle.std.proofs.Common.{◌≡◌, ◌∷◌, ◌++◌, ◌∙◌}
+use Rattle.msrp_plan.proofs.Common.{true, List, [], ap, sym, subst, append-nil, PlanModel, IsPlan, IsLegal, IsRun, IsRunStart, legal_turn, each_at}
 use Rattle.msrp_plan.specs.declared.rows.Row.{Row}
 use Rattle.msrp_plan.specs.declared.rows.TextVersion.{TextVersion}
 use Rattle.msrp_sim.specs.Simulated.{SimModel, HasMade}

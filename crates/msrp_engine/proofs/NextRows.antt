@@ -1,5 +1,6 @@
 -- The next row of a text, where it is known of which tick and core that is.
-use Rattle.msrp_plan.proofs.Common.{◌≡◌, [], Option, Some, None, Result, Ok, true, false, ap, sym, ◌∙◌, subst, IsSome, ℕ}
+use Rattle.std.proofs.Common.{◌≡◌, ◌∙◌}
+use Rattle.msrp_plan.proofs.Common.{[], Option, Some, None, Result, Ok, true, false, ap, sym, subst, IsSome, ℕ}
 use Rattle.msrp_plan.specs.declared.ids.CoreId.{CoreId}
 use Rattle.msrp_plan.specs.declared.rows.Row.{Row}
 use Rattle.std.specs.Option.{is_some}

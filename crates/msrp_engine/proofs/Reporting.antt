@@ -1,5 +1,6 @@
 -- The rows of a trace's text, counted as they are judged.
-use Rattle.msrp_plan.proofs.Common.{◌≡◌, ◌⊎◌, ℕ, List, Option, IfOk, ap, sym, subst, ◌∙◌, inl, inr, ⊤, PlanModel}
+use Rattle.std.proofs.Common.{◌≡◌, ◌⊎◌, ◌∙◌}
+use Rattle.msrp_plan.proofs.Common.{ℕ, List, Option, IfOk, ap, sym, subst, inl, inr, ⊤, PlanModel}
 use Rattle.msrp_plan.specs.declared.bytes.Sink.{Sink}
 use Rattle.msrp_plan.specs.declared.faults.Fault.{Fault}
 use Rattle.std.specs.declared.result.Result.{Result}

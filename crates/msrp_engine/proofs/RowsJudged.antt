@@ -1,5 +1,6 @@
 -- A trace's rows, judged as they are read: those that came, and what is found in them.
-use Rattle.msrp_plan.proofs.Common.{◌≡◌, ◌++◌, ◌∷◌, [], ◌+◌, ◌-◌, ◌*◌, ◌<◌, ℕ, length, List, Option, None, Some, refl, ap, sym, subst, ◌∙◌, length-append, ⊤, PlanModel, fault_in, verdict}
+use Rattle.std.proofs.Common.{◌≡◌, ◌++◌, ◌∷◌, ◌+◌, ◌-◌, ◌*◌, ◌<◌, ◌∙◌}
+use Rattle.msrp_plan.proofs.Common.{[], ℕ, length, List, Option, None, Some, refl, ap, sym, subst, length-append, ⊤, PlanModel, fault_in, verdict}
 use Rattle.std.specs.declared.result.Result.{Result}
 use Rattle.std.specs.declared.result.Result.TheVariants.{Ok, Err}
 use Rattle.msrp_audit.specs.Audits.{HasFed, answer_of}

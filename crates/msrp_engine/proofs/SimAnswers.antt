@@ -1,5 +1,6 @@
 -- What a plan is answered is what its text is answered.
-use Rattle.msrp_plan.proofs.Common.{◌≡◌, ℕ, List, Option, OnOk, refl, Ok, Err, PlanModel}
+use Rattle.std.proofs.Common.{◌≡◌}
+use Rattle.msrp_plan.proofs.Common.{ℕ, List, Option, OnOk, refl, Ok, Err, PlanModel}
 use Rattle.msrp_plan.specs.declared.bytes.Sink.{Sink}
 use Rattle.msrp_plan.specs.declared.rows.TextVersion.{TextVersion}
 use Rattle.std.specs.declared.result.Result.{Result}

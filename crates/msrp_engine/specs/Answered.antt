@@ -1,5 +1,6 @@
 -- What an engine answers where its readers tell their bytes, and what it answers whatever they tell.
-use Rattle.msrp_plan.specs.Common.{◌≡◌, ◌⊎◌, ◌↔◌, ℕ, List, true, false, Option, Some, Err, IfOk, IfErr, Result, sink_failed, source_failed, source_remaining, PlanModel}
+use Rattle.std.specs.Prelude.{◌≡◌, ◌⊎◌, ◌↔◌}
+use Rattle.msrp_plan.specs.Common.{ℕ, List, true, false, Option, Some, Err, IfOk, IfErr, Result, sink_failed, source_failed, source_remaining, PlanModel}
 use Rattle.msrp_plan.specs.declared.bytes.Sink.{Sink}
 use Rattle.msrp_plan.specs.declared.bytes.Source.{Source}
 use Rattle.msrp_text.specs.Reading.{csv_records, plan_of}

@@ -1,5 +1,6 @@
 -- What an audit writes and answers.
-use Rattle.msrp_plan.specs.Common.{◌≡◌, ℕ, List, if◌then◌else◌, Option, Ok, Err, ⊤, Result, Wrote, sink_failed, verdict_text}
+use Rattle.std.specs.Prelude.{◌≡◌, if◌then◌else◌}
+use Rattle.msrp_plan.specs.Common.{ℕ, List, Option, Ok, Err, ⊤, Result, Wrote, sink_failed, verdict_text}
 use Rattle.msrp_plan.specs.declared.bytes.Sink.{Sink}
 use Rattle.msrp_plan.specs.declared.faults.Fault.{Fault}
 use Rattle.msrp_faults.specs.declared.faults.CliFault.{CliFault}

@@ -1,6 +1,7 @@
 -- What is told of a plan before it runs, as text: its levels, its ceilings and its tops (Baker 1991; for global resources
 -- Gai, Lipari and Di Natale 2001).
-use Rattle.msrp_plan.specs.Common.{ℕ, List, [], ◌∷◌, ◌++◌, codes, decimal, length, slice_index_or, if◌then◌else◌, flat_map, range_with_len, PlanModel, task_at, is_global, level, local_ceiling, top}
+use Rattle.std.specs.Prelude.{◌∷◌, ◌++◌, if◌then◌else◌}
+use Rattle.msrp_plan.specs.Common.{ℕ, List, [], codes, decimal, length, slice_index_or, flat_map, range_with_len, PlanModel, task_at, is_global, level, local_ceiling, top}
 use Rattle.msrp_text.specs.PlanText.{record_text}
 
 -- a task by its number: its name and its preemption level

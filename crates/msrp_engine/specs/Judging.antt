@@ -1,7 +1,7 @@
 -- The rows of a trace's text, judged as they come.
-use Rattle.msrp_plan.specs.Common.{ℕ, List, [], ◌∷◌, ◌++◌, Option, Some, None, Ok, Err, ◌≡◌, ⊤, PlanModel, fault_in}
+use Rattle.msrp_plan.specs.Common.{ℕ, List, [], Option, Some, None, Ok, Err, ⊤, PlanModel, fault_in}
 use Rattle.msrp_plan.specs.declared.rows.Row.{Row}
-use Rattle.std.specs.Prelude.{Result}
+use Rattle.std.specs.Prelude.{◌∷◌, ◌++◌, ◌≡◌, Result}
 use Rattle.msrp_audit.specs.Audits.{HasFed}
 use Rattle.msrp_trace.specs.Reading.{Told}
 use Rattle.msrp_trace.specs.Readers.{told_left}

@@ -1,5 +1,6 @@
 -- What the report of a trace's text is.
-use Rattle.msrp_plan.specs.Common.{◌≡◌, ℕ, List, [], Option, Ok, Err, IfOk, ⊤, Result, Wrote, PlanModel}
+use Rattle.std.specs.Prelude.{◌≡◌}
+use Rattle.msrp_plan.specs.Common.{ℕ, List, [], Option, Ok, Err, IfOk, ⊤, Result, Wrote, PlanModel}
 use Rattle.msrp_plan.specs.declared.bytes.Sink.{Sink}
 use Rattle.msrp_plan.specs.declared.faults.Fault.{Fault}
 use Rattle.msrp_plan.specs.declared.rows.Row.{Row}

@@ -1,5 +1,6 @@
 -- What a run of a plan on threads writes and answers.
-use Rattle.msrp_plan.specs.Common.{◌≡◌, ℕ, List, true, Option, Ok, Err, Result, carries_ahead, Wrote, PlanModel, IsRun, IsPlan}
+use Rattle.std.specs.Prelude.{◌≡◌}
+use Rattle.msrp_plan.specs.Common.{ℕ, List, true, Option, Ok, Err, Result, carries_ahead, Wrote, PlanModel, IsRun, IsPlan}
 use Rattle.msrp_plan.specs.declared.bytes.Sink.{Sink}
 use Rattle.msrp_plan.specs.declared.rows.Row.{Row}
 use Rattle.msrp_plan.specs.declared.rows.TextVersion.{TextVersion}

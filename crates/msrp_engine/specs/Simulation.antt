@@ -1,5 +1,6 @@
 -- What a simulation of a plan, and a text of it, write and answer.
-use Rattle.msrp_plan.specs.Common.{◌≡◌, ℕ, List, Option, Ok, Err, Result, PlanModel, IsOrder, Wrote, IsPlan}
+use Rattle.std.specs.Prelude.{◌≡◌}
+use Rattle.msrp_plan.specs.Common.{ℕ, List, Option, Ok, Err, Result, PlanModel, IsOrder, Wrote, IsPlan}
 use Rattle.msrp_plan.specs.declared.rows.Row.{Row}
 use Rattle.msrp_plan.specs.declared.bytes.Sink.{Sink}
 use Rattle.msrp_plan.specs.declared.rows.TextVersion.{TextVersion}

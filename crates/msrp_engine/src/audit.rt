@@ -1,5 +1,6 @@
 //! The audit of a trace's text, row by row.
-ghost use Rattle.msrp_plan.specs.Common.{◌≡◌, ◌⊎◌, [], true, Some, Err, IfErr};
+ghost use Rattle.std.specs.Prelude.{◌≡◌, ◌⊎◌};
+ghost use Rattle.msrp_plan.specs.Common.{[], true, Some, Err, IfErr};
 ghost use Rattle.msrp_audit.specs.Audits.{HasFed};
 ghost use Rattle.msrp_trace.specs.Reading.{Told, rows_of};
 ghost use Rattle.msrp_engine.specs.Answered.{Answered, OfText, OfTexts, ReadsBoth};

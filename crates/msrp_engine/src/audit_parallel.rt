@@ -1,5 +1,6 @@
 //! The audit of a trace's text in pieces: the rows are gathered, and then judged side by side.
-ghost use Rattle.msrp_plan.specs.Common.{ℕ, ◌≡◌, ◌<◌, ◌≤◌, List, [], true, Some, IfErr};
+ghost use Rattle.std.specs.Prelude.{◌≡◌, ◌<◌, ◌≤◌};
+ghost use Rattle.msrp_plan.specs.Common.{ℕ, List, [], true, Some, IfErr};
 ghost use Rattle.msrp_audit.specs.Audits.{HasFed};
 ghost use Rattle.msrp_plan.specs.declared.rows.Row.{Row as TraceRow};
 ghost use Rattle.msrp_trace.specs.Reading.{Told, rows_of};

@@ -1,6 +1,7 @@
 //! What a plan says before it runs: levels, ceilings and tops, from a plan's text to a text.
 
-ghost use Rattle.msrp_plan.specs.Common.{◌≡◌, ◌<◌, length, true, IfOk, IfErr, OnOk, Wrote, IsPlan};
+ghost use Rattle.std.specs.Prelude.{◌≡◌, ◌<◌};
+ghost use Rattle.msrp_plan.specs.Common.{length, true, IfOk, IfErr, OnOk, Wrote, IsPlan};
 ghost use Rattle.msrp_text.specs.PlanText.{record_text};
 ghost use Rattle.msrp_text.specs.Reading.{plan_of};
 ghost use Rattle.msrp_engine.specs.CheckText.{ceiling_record, check_text, level_record, told_each, top_record};

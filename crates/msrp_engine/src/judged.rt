@@ -2,7 +2,8 @@
 //!
 //! The text says which core's row is next. That core runs, which gives its one legal row, and the text of that row is compared with the text that is
 //! next. So a legal row is never read field by field. As long as a core's rows differ in their ticks alone, its text is made once.
-ghost use Rattle.msrp_plan.specs.Common.{◌≡◌, ◌<◌, ◌*◌, ℕ, List, ◌++◌, ◌∷◌, [], IfErr, IfOk, IfSome, Some, None, Ok, Err, true, false, source_failed, IsPlan, is_in_turn};
+ghost use Rattle.std.specs.Prelude.{◌≡◌, ◌<◌, ◌*◌, ◌++◌, ◌∷◌};
+ghost use Rattle.msrp_plan.specs.Common.{ℕ, List, [], IfErr, IfOk, IfSome, Some, None, Ok, Err, true, false, source_failed, IsPlan, is_in_turn};
 ghost use Rattle.msrp_audit.specs.Audits.{Awaits, HasFed, IsDueInAudit};
 ghost use Rattle.msrp_plan.specs.declared.rows.Row.{Row as TraceRow};
 ghost use Rattle.msrp_trace.specs.Reading.{Told};

@@ -1,6 +1,7 @@
 //! A plan's own text, from any text of it.
 
-ghost use Rattle.msrp_plan.specs.Common.{◌≡◌, true, IfOk, IfErr, OnOk, IsPlan};
+ghost use Rattle.std.specs.Prelude.{◌≡◌};
+ghost use Rattle.msrp_plan.specs.Common.{true, IfOk, IfErr, OnOk, IsPlan};
 ghost use Rattle.msrp_text.specs.PlanText.{plan_text};
 ghost use Rattle.msrp_text.specs.Reading.{plan_of};
 ghost use Rattle.msrp_faults.specs.Outcomes.{is_sim_fault};

@@ -1,5 +1,6 @@
 //! What ends the reading of a text.
-ghost use Rattle.msrp_plan.specs.Common.{◌≡◌, true, false, OnOk, source_failed};
+ghost use Rattle.std.specs.Prelude.{◌≡◌};
+ghost use Rattle.msrp_plan.specs.Common.{true, false, OnOk, source_failed};
 ghost use Rattle.msrp_engine.specs.Answered.{OrUnread};
 
 use msrp_faults::CliFault;

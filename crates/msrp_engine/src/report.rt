@@ -1,5 +1,6 @@
 //! The report of a trace's text.
-ghost use Rattle.msrp_plan.specs.Common.{◌≡◌, ◌<◌, ◌≤◌, ◌⊎◌, ◌++◌, List, [], true, false, Some, Ok, Err, IfOk, IfErr, OnOk, length, sink_failed};
+ghost use Rattle.std.specs.Prelude.{◌≡◌, ◌<◌, ◌≤◌, ◌⊎◌, ◌++◌};
+ghost use Rattle.msrp_plan.specs.Common.{List, [], true, false, Some, Ok, Err, IfOk, IfErr, OnOk, length, sink_failed};
 ghost use Rattle.msrp_audit.specs.Audits.{HasFed};
 ghost use Rattle.msrp_plan.specs.declared.rows.Row.{Row as TraceRow};
 ghost use Rattle.msrp_report.specs.Lines.{lines_of};

@@ -1,6 +1,7 @@
 //! A plan on threads: from a plan's text to the text of what its cores did.
 
-ghost use Rattle.msrp_plan.specs.Common.{◌≡◌, ◌⊎◌, true, false, Err, OnOk, OnErr, carries_ahead, sink_failed, IsRun, IsPlan};
+ghost use Rattle.std.specs.Prelude.{◌≡◌, ◌⊎◌};
+ghost use Rattle.msrp_plan.specs.Common.{true, false, Err, OnOk, OnErr, carries_ahead, sink_failed, IsRun, IsPlan};
 ghost use Rattle.msrp_text.specs.Reading.{plan_of};
 ghost use Rattle.msrp_faults.specs.Outcomes.{written_status, is_sim_fault};
 ghost use Rattle.msrp_engine.specs.Answered.{AnsweredPlan, OfText};

@@ -1,6 +1,7 @@
 //! The simulation of a plan: from its text to the text of its run on one thread.
 
-ghost use Rattle.msrp_plan.specs.Common.{◌≡◌, ◌<◌, ◌+◌, ◌*◌, ◌++◌, ◌∷◌, ◌⊎◌, ℕ, List, [], true, false, None, Err, OnOk, OnErr, sink_failed, IsOrder, IsPlan};
+ghost use Rattle.std.specs.Prelude.{◌≡◌, ◌<◌, ◌+◌, ◌*◌, ◌++◌, ◌∷◌, ◌⊎◌};
+ghost use Rattle.msrp_plan.specs.Common.{ℕ, List, [], true, false, None, Err, OnOk, OnErr, sink_failed, IsOrder, IsPlan};
 ghost use Rattle.msrp_plan.specs.declared.rows.Row.{Row as TraceRow};
 ghost use Rattle.msrp_sim.specs.Cores.{known_row};
 ghost use Rattle.msrp_sim.specs.Orders.{cores_of};

@@ -1,6 +1,7 @@
 //! The texts of a plan: a plan is read, a text of it is gathered in memory, and then written.
 
-ghost use Rattle.msrp_plan.specs.Common.{◌≡◌, ◌⊎◌, true, Err, IfOk, IfErr, OnOk, Wrote, IsPlan};
+ghost use Rattle.std.specs.Prelude.{◌≡◌, ◌⊎◌};
+ghost use Rattle.msrp_plan.specs.Common.{true, Err, IfOk, IfErr, OnOk, Wrote, IsPlan};
 ghost use Rattle.msrp_text.specs.Reading.{plan_of};
 ghost use Rattle.msrp_faults.specs.Outcomes.{is_sim_fault, written_status};
 ghost use Rattle.msrp_engine.specs.Answered.{AnsweredPlan, OfText};

@@ -1,5 +1,6 @@
 -- A turn over the lock leaves every machine so that it can go on.
-use Rattle.msrp_plan.proofs.Common.{◌≡◌, ◌≢◌, ℕ, ◌+◌, ◌<◌, ◌≤◌, cond, true, false, Option, Some, None, [], ◌∷◌, ◌++◌, refl, ap, sym, ◌∙◌, subst, arith, length, inl, inr, cases_Bool, lt-ltb, none-some, same_Some, PlanModel, is_global, not_equal}
+use Rattle.std.proofs.Common.{◌≡◌, ◌≢◌, ◌+◌, ◌<◌, ◌≤◌, ◌∷◌, ◌++◌, ◌∙◌}
+use Rattle.msrp_plan.proofs.Common.{ℕ, cond, true, false, Option, Some, None, [], refl, ap, sym, subst, arith, length, inl, inr, cases_Bool, lt-ltb, none-some, same_Some, PlanModel, is_global, not_equal}
 use Rattle.msrp_plan.specs.declared.ids.ResId.{ResId}
 use Rattle.msrp_plan.specs.declared.rows.Row.{Row}
 use Rattle.msrp_plan.specs.declared.units.Phase.TheVariants.{Free}

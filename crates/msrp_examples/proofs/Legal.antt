@@ -1,5 +1,6 @@
 -- What an audit finds good is a legal run.
-use Rattle.msrp_plan.proofs.Common.{◌≡◌, ℕ, List, Option, None, Some, refl, PlanModel, fault_in, verdict, good_is_run}
+use Rattle.std.proofs.Common.{◌≡◌}
+use Rattle.msrp_plan.proofs.Common.{ℕ, List, Option, None, Some, refl, PlanModel, fault_in, verdict, good_is_run}
 use Rattle.msrp_plan.specs.declared.faults.Fault.{Fault}
 use Rattle.std.specs.declared.result.Result.{Result}
 use Rattle.std.specs.declared.result.Result.TheVariants.{Ok, Err}

@@ -1,5 +1,6 @@
 -- A trace's text that tells a legal run of the plan that another text tells.
-use Rattle.msrp_plan.specs.Common.{◌≡◌, ℕ, List, None, Ok, PlanModel, IsRun}
+use Rattle.std.specs.Prelude.{◌≡◌}
+use Rattle.msrp_plan.specs.Common.{ℕ, List, None, Ok, PlanModel, IsRun}
 use Rattle.msrp_text.specs.Reading.{csv_records, plan_of}
 use Rattle.msrp_trace.specs.Reading.{rows_of}
 

@@ -1,5 +1,6 @@
 -- Machines that can go on over one lock.
-use Rattle.msrp_plan.specs.Common.{List, length, ◌≡◌, ◌≤◌, ◌+◌}
+use Rattle.std.specs.Prelude.{◌≡◌, ◌≤◌, ◌+◌}
+use Rattle.msrp_plan.specs.Common.{List, length}
 use Rattle.msrp_plan.specs.declared.rows.Row.{Row}
 use Rattle.msrp_core.specs.Machine.{MachineModel, StandsAfter}
 use Rattle.msrp_core.specs.Ports.{claim_in}

@@ -1,5 +1,6 @@
 //! Judges a trace that lies in memory, by the engine of `msrp audit`.
-ghost use Rattle.msrp_plan.specs.Common.{◌≡◌, Ok, true};
+ghost use Rattle.std.specs.Prelude.{◌≡◌};
+ghost use Rattle.msrp_plan.specs.Common.{Ok, true};
 ghost use Rattle.msrp_examples.specs.Legal.{TellsRun};
 
 use msrp_engine::{CliFault, audit_text};

@@ -1,5 +1,5 @@
 //! Runs the machines of two cores over one lock, in an order of turns of one's own.
-ghost use Rattle.msrp_plan.specs.Common.{◌≡◌, ◌≢◌};
+ghost use Rattle.std.specs.Prelude.{◌≡◌, ◌≢◌};
 ghost use Rattle.msrp_core.specs.Machine.{MachineModel};
 ghost use Rattle.msrp_examples.specs.Lock.{CanGoOn};
 

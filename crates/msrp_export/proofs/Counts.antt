@@ -1,5 +1,6 @@
 -- What is kept of a resource, with one row more.
-use Rattle.msrp_plan.proofs.Common.{◌≡◌, ℕ, ◌+◌, ◌≤◌, ◌<◌, ◌^◌, ◌==◌, Bool, true, false, ◌&&◌, cond, List, [], ◌∷◌, ◌++◌, ap, sym, ◌∙◌, arith, length, length-append, Option, Some, None, refl, slice_index_or, slice_set, eqb-true, eq-eqb, true≢false, get_or-set_at, get_or-set_other, count_by, is_some, cons_option, filter_map-append, count_by-le-length, fold_push, sum_by_push, is_on, is_release, is_release_of, is_request, requester}
+use Rattle.std.proofs.Common.{◌≡◌, ◌+◌, ◌≤◌, ◌<◌, ◌^◌, ◌==◌, ◌&&◌, ◌∷◌, ◌++◌, ◌∙◌}
+use Rattle.msrp_plan.proofs.Common.{ℕ, Bool, true, false, cond, List, [], ap, sym, arith, length, length-append, Option, Some, None, refl, slice_index_or, slice_set, eqb-true, eq-eqb, true≢false, get_or-set_at, get_or-set_other, count_by, is_some, cons_option, filter_map-append, count_by-le-length, fold_push, sum_by_push, is_on, is_release, is_release_of, is_request, requester}
 use Rattle.msrp_plan.specs.declared.ids.JobId.{JobId}
 use Rattle.msrp_plan.specs.declared.ids.ResId.{ResId}
 use Rattle.msrp_plan.specs.declared.rows.Row.{Row}

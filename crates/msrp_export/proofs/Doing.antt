@@ -1,5 +1,6 @@
 -- What a task does, part by part.
-use Rattle.msrp_plan.proofs.Common.{◌≡◌, ℕ, ◌+◌, List, Option, refl, cond, nat_lt, nat_le, PlanModel, release, task_at}
+use Rattle.std.proofs.Common.{◌≡◌, ◌+◌}
+use Rattle.msrp_plan.proofs.Common.{ℕ, List, Option, refl, cond, nat_lt, nat_le, PlanModel, release, task_at}
 use Rattle.msrp_plan.specs.declared.ids.JobId.{JobId}
 use Rattle.msrp_plan.specs.declared.rows.Kind.{Kind}
 use Rattle.msrp_plan.specs.declared.rows.Row.{Row}

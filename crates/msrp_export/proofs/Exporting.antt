@@ -1,5 +1,6 @@
 -- What an exporter keeps, with one row more.
-use Rattle.msrp_plan.proofs.Common.{◌≡◌, ◌≢◌, ℕ, ◌+◌, ◌-◌, ◌*◌, ◌<◌, List, [], ◌∷◌, ◌++◌, ap, sym, subst, ◌∙◌, arith, length, cond, true, nat_lt, le-ltb, lt-ltb, PlanModel, IsPlan}
+use Rattle.std.proofs.Common.{◌≡◌, ◌≢◌, ◌+◌, ◌-◌, ◌*◌, ◌<◌, ◌∷◌, ◌++◌, ◌∙◌}
+use Rattle.msrp_plan.proofs.Common.{ℕ, List, [], ap, sym, subst, arith, length, cond, true, nat_lt, le-ltb, lt-ltb, PlanModel, IsPlan}
 use Rattle.msrp_plan.specs.declared.rows.Row.{Row}
 use Rattle.msrp_export.specs.Exports.{HasExported, TellsTick, row_text}
 use Rattle.msrp_export.specs.Tells.{Tells}

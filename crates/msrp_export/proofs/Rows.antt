@@ -1,5 +1,6 @@
 -- The text of rows, with one row more.
-use Rattle.msrp_plan.proofs.Common.{◌≡◌, List, [], ◌∷◌, ◌++◌, ap, sym, ◌∙◌, append-nil, append_assoc, PlanModel}
+use Rattle.std.proofs.Common.{◌≡◌, ◌∷◌, ◌++◌, ◌∙◌}
+use Rattle.msrp_plan.proofs.Common.{List, [], ap, sym, append-nil, append_assoc, PlanModel}
 use Rattle.msrp_plan.specs.declared.rows.Row.{Row}
 use Rattle.msrp_export.specs.Exports.{part_text, row_text, rows_from}
 use Rattle.msrp_export.specs.Changes.{head_text}

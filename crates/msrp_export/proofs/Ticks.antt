@@ -1,5 +1,6 @@
 -- Ticks of rows, with one row more.
-use Rattle.msrp_plan.proofs.Common.{◌≡◌, ◌≢◌, ℕ, ◌+◌, ◌-◌, ◌*◌, ◌/◌, ◌<◌, ◌≤◌, cond, nat_lt, List, [], ◌∷◌, ◌++◌, ap, ◌∙◌, arith, length, length-append, le-ltb, lt-ltb, take-append-le, take_all, div-mul-add, PlanModel}
+use Rattle.std.proofs.Common.{◌≡◌, ◌≢◌, ◌+◌, ◌-◌, ◌*◌, ◌/◌, ◌<◌, ◌≤◌, ◌∷◌, ◌++◌, ◌∙◌}
+use Rattle.msrp_plan.proofs.Common.{ℕ, cond, nat_lt, List, [], ap, arith, length, length-append, le-ltb, lt-ltb, take-append-le, take_all, div-mul-add, PlanModel}
 use Rattle.msrp_plan.specs.declared.rows.Row.{Row}
 use Rattle.msrp_export.specs.Ticks.{begun, over, rows_before, rows_in}
 

@@ -1,5 +1,6 @@
 -- What is written in each format: a head, what each tick changes, and an end.
-use Rattle.msrp_plan.specs.Common.{ℕ, List, [], ◌++◌, codes, length, nat_lt, Option, if◌then◌else◌, ◌+◌, ◌*◌, PlanModel}
+use Rattle.std.specs.Prelude.{◌++◌, if◌then◌else◌, ◌+◌, ◌*◌}
+use Rattle.msrp_plan.specs.Common.{ℕ, List, [], codes, length, nat_lt, Option, PlanModel}
 use Rattle.msrp_plan.specs.declared.faults.Rule.{Rule}
 use Rattle.msrp_plan.specs.declared.rows.Row.{Row}
 use Rattle.msrp_export.specs.Groups.{each}

@@ -1,5 +1,6 @@
 -- What is written of a trace in a format, row by row.
-use Rattle.msrp_plan.specs.Common.{◌≡◌, ℕ, ◌<◌, ◌+◌, ◌-◌, ◌*◌, List, [], ◌∷◌, ◌++◌, if◌then◌else◌, length, nat_lt, slice_get, take, Ok, Err, ⊤, Result, PlanModel, IsPlan}
+use Rattle.std.specs.Prelude.{◌≡◌, ◌<◌, ◌+◌, ◌-◌, ◌*◌, ◌∷◌, ◌++◌, if◌then◌else◌}
+use Rattle.msrp_plan.specs.Common.{ℕ, List, [], length, nat_lt, slice_get, take, Ok, Err, ⊤, Result, PlanModel, IsPlan}
 use Rattle.msrp_plan.specs.declared.faults.Fault.{Fault}
 use Rattle.msrp_plan.specs.declared.rows.Row.{Row}
 use Rattle.msrp_export.specs.Changes.{end_text, fault_text, head_text, tick_text}

@@ -1,5 +1,6 @@
 -- What a plan has: cores, tasks and resources.
-use Rattle.msrp_plan.specs.Common.{ℕ, List, ◌++◌, decimal, length, flat_map, range_with_len, PlanModel}
+use Rattle.std.specs.Prelude.{◌++◌}
+use Rattle.msrp_plan.specs.Common.{ℕ, List, decimal, length, flat_map, range_with_len, PlanModel}
 use Rattle.msrp_export.specs.Words.{res_name, task_name}
 use Rattle.msrp_export.specs.declared.groups.Group.{Group}
 use Rattle.msrp_export.specs.declared.groups.Group.TheVariants.{Cores, Resources, Tasks}

@@ -1,5 +1,6 @@
 -- What is the same as in the tick before.
-use Rattle.msrp_plan.specs.Common.{Bool, true, false, ◌&&◌, Option, Some, None, same_res, same_job, same_kind, same_choice}
+use Rattle.std.specs.Prelude.{◌&&◌}
+use Rattle.msrp_plan.specs.Common.{Bool, true, false, Option, Some, None, same_res, same_job, same_kind, same_choice}
 use Rattle.msrp_plan.specs.declared.rows.Row.{Row}
 use Rattle.msrp_export.specs.declared.states.Doing.{Doing}
 use Rattle.msrp_export.specs.declared.states.TaskState.{TaskState}

@@ -2,7 +2,8 @@
 -- slices are its stretches of rows of one kind, job and resource, a task's those in one state with one job, a resource's those of one
 -- holder. An arrow goes from the row in which a job joins a queue to the one in which it is granted the resource. Its number tells the
 -- task and how much its jobs had done: each request of a task has its own.
-use Rattle.msrp_plan.specs.Common.{ℕ, List, [], ◌++◌, Bool, true, false, not, ◌&&◌, codes, decimal, Option, Some, None, is_some, if◌then◌else◌, ◌+◌, ◌*◌, same_job, PlanModel, task_at, same_choice, rule_text}
+use Rattle.std.specs.Prelude.{◌++◌, ◌&&◌, if◌then◌else◌, ◌+◌, ◌*◌}
+use Rattle.msrp_plan.specs.Common.{ℕ, List, [], Bool, true, false, not, codes, decimal, Option, Some, None, is_some, same_job, PlanModel, task_at, same_choice, rule_text}
 use Rattle.msrp_plan.specs.Words.{kind_text}
 use Rattle.msrp_plan.specs.declared.faults.Rule.{Rule}
 use Rattle.msrp_plan.specs.declared.ids.JobId.{JobId}

@@ -1,5 +1,6 @@
 -- What the rows of a trace say of a core, of a task and of a resource.
-use Rattle.msrp_plan.specs.Common.{ℕ, List, Bool, true, false, ◌==◌, ◌&&◌, not, nat_lt, nat_le, Option, Some, None, fold, count_by, length, if◌then◌else◌, ◌/◌, PlanModel, key, task_at, is_released, is_waiting, job_at, log_of, fifo, is_on}
+use Rattle.std.specs.Prelude.{◌==◌, ◌&&◌, if◌then◌else◌, ◌/◌}
+use Rattle.msrp_plan.specs.Common.{ℕ, List, Bool, true, false, not, nat_lt, nat_le, Option, Some, None, fold, count_by, length, PlanModel, key, task_at, is_released, is_waiting, job_at, log_of, fifo, is_on}
 use Rattle.msrp_plan.specs.declared.ids.JobId.{JobId}
 use Rattle.msrp_plan.specs.declared.rows.Kind.{Kind}
 use Rattle.msrp_plan.specs.declared.rows.Kind.TheVariants.{Lock, Unlock, Take, Grant, Release}

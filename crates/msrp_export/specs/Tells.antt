@@ -1,7 +1,7 @@
 -- What is kept of rows in place of the rows.
-use Rattle.msrp_plan.specs.Common.{◌≡◌, ℕ, ◌<◌, ◌≤◌, ◌+◌, ◌&&◌, List, None, count_by, if◌then◌else◌, is_some, length, not, slice_index_or, is_waiting, most_cores, most_resources, most_tasks, is_release, is_release_of, is_request, requester}
+use Rattle.msrp_plan.specs.Common.{ℕ, List, None, count_by, is_some, length, not, slice_index_or, is_waiting, most_cores, most_resources, most_tasks, is_release, is_release_of, is_request, requester}
 use Rattle.msrp_plan.specs.declared.rows.Row.{Row}
-use Rattle.std.specs.Prelude.{filter_map}
+use Rattle.std.specs.Prelude.{◌≡◌, ◌<◌, ◌≤◌, ◌+◌, ◌&&◌, if◌then◌else◌, filter_map}
 use Rattle.msrp_plan.specs.declared.times.Times.{Times}
 use Rattle.msrp_plan.specs.declared.times.Times.TheVariants.{Every, Listed}
 use Rattle.msrp_export.specs.Signals.{acquired, acquires, given_up, gives_up, holder, holder_by, last_row, work}

@@ -1,5 +1,6 @@
 -- Rows by their ticks, and what a task does in one.
-use Rattle.msrp_plan.specs.Common.{ℕ, List, take, length, nat_eq, nat_lt, if◌then◌else◌, false, None, ◌+◌, ◌-◌, ◌*◌, ◌/◌, job_at, PlanModel}
+use Rattle.std.specs.Prelude.{if◌then◌else◌, ◌+◌, ◌-◌, ◌*◌, ◌/◌}
+use Rattle.msrp_plan.specs.Common.{ℕ, List, take, length, nat_eq, nat_lt, false, None, job_at, PlanModel}
 use Rattle.msrp_plan.specs.declared.rows.Row.{Row}
 use Rattle.msrp_export.specs.Signals.{doing_of}
 use Rattle.msrp_export.specs.declared.states.Doing.{Doing}

@@ -2,7 +2,8 @@
 -- time is one tick. Of each core it says what it does (k), for which job (j) and on which resource (g); of each task its state (t), and whether it is late (l); of
 -- each resource its holder (h) and how many jobs stand in its queue (q); and the rule that is broken (f), and the row that breaks it (r).
 -- Strings are as GTKWave reads them, and numbers are reals.
-use Rattle.msrp_plan.specs.Common.{ℕ, List, [], ◌++◌, Bool, not, nat_eq, ◌==◌, ◌&&◌, codes, decimal, Option, Some, None, if◌then◌else◌, PlanModel, same_choice, rule_text}
+use Rattle.std.specs.Prelude.{◌++◌, ◌==◌, ◌&&◌, if◌then◌else◌}
+use Rattle.msrp_plan.specs.Common.{ℕ, List, [], Bool, not, nat_eq, codes, decimal, Option, Some, None, PlanModel, same_choice, rule_text}
 use Rattle.msrp_plan.specs.Words.{kind_text}
 use Rattle.msrp_plan.specs.declared.faults.Rule.{Rule}
 use Rattle.msrp_plan.specs.declared.ids.JobId.{JobId}

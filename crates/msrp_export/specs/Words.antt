@@ -1,5 +1,6 @@
 -- Words for what tasks do, and the names of tasks and resources.
-use Rattle.msrp_plan.specs.Common.{ℕ, List, Bool, true, false, ◌++◌, codes, decimal, Option, Some, None, slice_get, PlanModel, TaskModel}
+use Rattle.std.specs.Prelude.{◌++◌}
+use Rattle.msrp_plan.specs.Common.{ℕ, List, Bool, true, false, codes, decimal, Option, Some, None, slice_get, PlanModel, TaskModel}
 use Rattle.msrp_plan.specs.Words.{kind_text}
 use Rattle.msrp_plan.specs.declared.ids.JobId.{JobId}
 use Rattle.msrp_plan.specs.declared.ids.ResId.{ResId}

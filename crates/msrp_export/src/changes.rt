@@ -1,5 +1,6 @@
 //! What is written in either format: a head, what each tick changes, and an end. One walk goes over cores, tasks and resources.
-ghost use Rattle.msrp_plan.specs.Common.{◌≡◌, ◌<◌, List, length, Wrote, IsPlan};
+ghost use Rattle.std.specs.Prelude.{◌≡◌, ◌<◌};
+ghost use Rattle.msrp_plan.specs.Common.{List, length, Wrote, IsPlan};
 ghost use Rattle.msrp_plan.specs.declared.rows.Row.{Row as TraceRow};
 ghost use Rattle.msrp_export.specs.Changes.{broken_text, change, core_change, ends_text, head_begin, head_end, head_of, head_text, res_change, task_change, tick_begin, tick_text};
 ghost use Rattle.msrp_export.specs.Exports.{TellsTick};

@@ -1,5 +1,6 @@
 //! Rows, written as they come.
-ghost use Rattle.msrp_plan.specs.Common.{◌≡◌, ◌<◌, ◌+◌, ◌++◌, ◌∷◌, ◌^◌, [], List, length, Wrote};
+ghost use Rattle.std.specs.Prelude.{◌≡◌, ◌<◌, ◌+◌, ◌++◌, ◌∷◌, ◌^◌};
+ghost use Rattle.msrp_plan.specs.Common.{[], List, length, Wrote};
 ghost use Rattle.msrp_plan.specs.declared.rows.Row.{Row as TraceRow};
 ghost use Rattle.msrp_export.specs.Changes.{begun_text, end_text, fault_text, head_text, tick_text};
 ghost use Rattle.msrp_export.specs.Exports.{HasExported, TellsTick, row_text};

@@ -1,5 +1,6 @@
 //! What a plan has: cores, tasks and resources.
-ghost use Rattle.msrp_plan.specs.Common.{◌≡◌, Wrote, IsPlan};
+ghost use Rattle.std.specs.Prelude.{◌≡◌};
+ghost use Rattle.msrp_plan.specs.Common.{Wrote, IsPlan};
 ghost use Rattle.msrp_export.specs.Groups.{count_of, name_of};
 
 use crate::words::{add_number, res_word, task_word};

@@ -1,5 +1,6 @@
 //! What is the same as in the tick before.
-ghost use Rattle.msrp_plan.specs.Common.{◌≡◌, same_job, same_choice};
+ghost use Rattle.std.specs.Prelude.{◌≡◌};
+ghost use Rattle.msrp_plan.specs.Common.{same_job, same_choice};
 ghost use Rattle.msrp_export.specs.Keeping.{keeps_job, keeps_kind, keeps_res, keeps_row, same_bit, same_doing, same_state};
 
 use crate::states::{Doing, TaskState};

@@ -1,5 +1,6 @@
 //! The JSON of trace events: the tracks and events of cores, tasks and resources, and the end.
-ghost use Rattle.msrp_plan.specs.Common.{◌≡◌, ◌<◌, List, length, Wrote, IsPlan};
+ghost use Rattle.std.specs.Prelude.{◌≡◌, ◌<◌};
+ghost use Rattle.msrp_plan.specs.Common.{List, length, Wrote, IsPlan};
 ghost use Rattle.msrp_plan.specs.declared.rows.Row.{Row as TraceRow};
 ghost use Rattle.msrp_export.specs.Exports.{TellsTick};
 ghost use Rattle.msrp_export.specs.Groups.{count_of, each_of};

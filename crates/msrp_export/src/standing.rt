@@ -1,5 +1,6 @@
 //! What rows tell of each core, task and resource, without the rows.
-ghost use Rattle.msrp_plan.specs.Common.{◌≡◌, ◌<◌, ◌+◌, ◌++◌, ◌∷◌, ◌^◌, ℕ, [], List, None, cond, length, slice_index_or, is_waiting, most_cores, most_resources, most_tasks, fifo, is_request};
+ghost use Rattle.std.specs.Prelude.{◌≡◌, ◌<◌, ◌+◌, ◌++◌, ◌∷◌, ◌^◌};
+ghost use Rattle.msrp_plan.specs.Common.{ℕ, [], List, None, cond, length, slice_index_or, is_waiting, most_cores, most_resources, most_tasks, fifo, is_request};
 ghost use Rattle.msrp_plan.specs.declared.rows.Row.{Row as TraceRow};
 ghost use Rattle.msrp_export.specs.Signals.{acquires, gives_up, holder_by, last_row, res_state};
 ghost use Rattle.msrp_export.specs.Tells.{Tells, count_of, counted, no_count, no_use, use_of, used};

@@ -1,5 +1,6 @@
 //! What a task does in a tick.
-ghost use Rattle.msrp_plan.specs.Common.{◌≡◌, ◌<◌, ◌≤◌, ◌^◌, ◌*◌, false, if◌then◌else◌, List, length, true, release, IsPlan};
+ghost use Rattle.std.specs.Prelude.{◌≡◌, ◌<◌, ◌≤◌, ◌^◌, ◌*◌, if◌then◌else◌};
+ghost use Rattle.msrp_plan.specs.Common.{false, List, length, true, release, IsPlan};
 ghost use Rattle.msrp_plan.specs.Limits.{longest_time};
 ghost use Rattle.msrp_plan.specs.Times.{HasRelease};
 ghost use Rattle.msrp_plan.specs.declared.rows.Row.{Row as TraceRow};

@@ -1,5 +1,6 @@
 //! A value change dump: the signals and lines of cores, tasks and resources, and what is broken.
-ghost use Rattle.msrp_plan.specs.Common.{◌≡◌, ◌==◌, ◌&&◌, [], ◌++◌, codes, if◌then◌else◌, nat_eq, not, Wrote};
+ghost use Rattle.std.specs.Prelude.{◌≡◌, ◌==◌, ◌&&◌, ◌++◌, if◌then◌else◌};
+ghost use Rattle.msrp_plan.specs.Common.{[], codes, nat_eq, not, Wrote};
 ghost use Rattle.msrp_plan.specs.Words.{kind_text};
 ghost use Rattle.msrp_export.specs.Keeping.{keeps_job, keeps_kind, keeps_res};
 ghost use Rattle.msrp_export.specs.Vcd.{bit_line, broken_text, core_change, core_lines, holder_change, late_change, number_line, prefix, queue_change, res_change, signal, signals, state_change, task_change, tick_line, value_line};

@@ -1,5 +1,6 @@
 //! Words for what tasks do, and the names of tasks and resources.
-ghost use Rattle.msrp_plan.specs.Common.{◌≡◌, decimal, Wrote};
+ghost use Rattle.std.specs.Prelude.{◌≡◌};
+ghost use Rattle.msrp_plan.specs.Common.{decimal, Wrote};
 ghost use Rattle.msrp_export.specs.Words.{bit_text, faulty_text, job_text, res_text, state_text, task_name, res_name};
 
 use crate::states::TaskState;

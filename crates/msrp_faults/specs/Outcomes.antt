@@ -1,5 +1,6 @@
 -- What an engine answers, and the exit status.
-use Rattle.msrp_plan.specs.Common.{ℕ, Bool, true, false, ◌||◌, if◌then◌else◌, Ok, Err, Result, is_within, sink_failed, code_of}
+use Rattle.std.specs.Prelude.{◌||◌, if◌then◌else◌}
+use Rattle.msrp_plan.specs.Common.{ℕ, Bool, true, false, Ok, Err, Result, is_within, sink_failed, code_of}
 use Rattle.msrp_plan.specs.declared.bytes.Sink.{Sink}
 use Rattle.msrp_run.specs.declared.hire.RunError.{RunError}
 use Rattle.msrp_run.specs.declared.hire.RunError.TheVariants.{U1, U2}

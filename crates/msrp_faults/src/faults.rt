@@ -1,6 +1,6 @@
 //! What is answered in place of an output, and the exit status.
 
-ghost use Rattle.msrp_plan.specs.Common.{◌≡◌};
+ghost use Rattle.std.specs.Prelude.{◌≡◌};
 ghost use Rattle.msrp_faults.specs.Outcomes.{fault_of, run_fault, status_of, trace_fault_of};
 
 use msrp_plan::{Memory, WriteFault};

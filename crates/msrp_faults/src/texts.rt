@@ -1,5 +1,6 @@
 //! Texts that are gathered in memory, or written in one piece.
-ghost use Rattle.msrp_plan.specs.Common.{◌≡◌, true, false, IfOk, IfErr, Wrote, sink_failed};
+ghost use Rattle.std.specs.Prelude.{◌≡◌};
+ghost use Rattle.msrp_plan.specs.Common.{true, false, IfOk, IfErr, Wrote, sink_failed};
 ghost use Rattle.msrp_faults.specs.Outcomes.{answered};
 ghost use Rattle.msrp_plan.specs.Bytes.{sink_inner};
 

@@ -1,5 +1,6 @@
 -- The distinct deadlines of a plan, gathered from its last task back.
-use Rattle.msrp_plan.proofs.Common.{◌≡◌, ℕ, ◌+◌, ◌<◌, Bool, true, false, cond, ◌||◌, nat_eq, nat_lt, List, [], ◌∷◌, ◌++◌, map, drop, refl, ap, sym, subst, ◌∙◌, inl, inr, arith, length, count_by, eqb-true, filter, list_any, cases_Bool, nat_tests, drop_more, length-map, get_or-map, length-filter, sum_by-append, PlanModel, TaskModel, no_task, task_at, level_of, any_push, all_of}
+use Rattle.std.proofs.Common.{◌≡◌, ◌+◌, ◌<◌, ◌||◌, ◌∷◌, ◌++◌, ◌∙◌}
+use Rattle.msrp_plan.proofs.Common.{ℕ, Bool, true, false, cond, nat_eq, nat_lt, List, [], map, drop, refl, ap, sym, subst, inl, inr, arith, length, count_by, eqb-true, filter, list_any, cases_Bool, nat_tests, drop_more, length-map, get_or-map, length-filter, sum_by-append, PlanModel, TaskModel, no_task, task_at, level_of, any_push, all_of}
 use Rattle.msrp_plan.specs.Levels.{distinct}
 use Rattle.msrp_plan.proofs.Lists.Filters.{any_within}
 

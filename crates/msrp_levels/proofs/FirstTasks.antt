@@ -1,5 +1,6 @@
 -- What the first tasks of a plan tell of a resource.
-use Rattle.msrp_plan.proofs.Common.{◌≡◌, ℕ, ◌+◌, ◌<◌, ◌==◌, Bool, true, false, cond, ◌&&◌, ◌||◌, List, [], ◌∷◌, ◌++◌, map, max, set, take, replicate, get_or, refl, ap, sym, ◌∙◌, inl, inr, arith, length, append-nil, eq-eqb, filter, list_any, range_with_len, true≢false, or-false, cases_eq, length-set, get_or-set_same, get_or-set_other, map-append, take_all, take_more, filter-append, get_or-map-range_with_len, length-map-range_with_len, PlanModel, TaskModel, no_task, task_at, is_lock_of, greatest, level_of, local_ceiling, uses, to_unlock, longest_section, greatest_push, any_push, all_of, not_equal}
+use Rattle.std.proofs.Common.{◌≡◌, ◌+◌, ◌<◌, ◌==◌, ◌&&◌, ◌||◌, ◌∷◌, ◌++◌, ◌∙◌}
+use Rattle.msrp_plan.proofs.Common.{ℕ, Bool, true, false, cond, List, [], map, max, set, take, replicate, get_or, refl, ap, sym, inl, inr, arith, length, append-nil, eq-eqb, filter, list_any, range_with_len, true≢false, or-false, cases_eq, length-set, get_or-set_same, get_or-set_other, map-append, take_all, take_more, filter-append, get_or-map-range_with_len, length-map-range_with_len, PlanModel, TaskModel, no_task, task_at, is_lock_of, greatest, level_of, local_ceiling, uses, to_unlock, longest_section, greatest_push, any_push, all_of, not_equal}
 use Rattle.msrp_plan.specs.declared.ids.TaskId.{TaskId}
 use Rattle.msrp_plan.specs.declared.units.Op.{Op}
 use Rattle.std.proofs.lemmas.List.{ext_get_or}

@@ -1,5 +1,6 @@
 -- Lists that are gathered number by number, and what is asked of their images.
-use Rattle.msrp_plan.proofs.Common.{◌≡◌, ℕ, zero, suc, ◌+◌, ◌<◌, Bool, true, false, cond, List, [], ◌∷◌, ◌++◌, map, replicate, refl, ap, sym, ◌∙◌, arith, append-nil, AllByRecursion, filter, range_with_len, sum_by, filter-append, sum_by-append, sum_by-cons, map-map, greatest, all_of, range_more}
+use Rattle.std.proofs.Common.{◌≡◌, ◌+◌, ◌<◌, ◌∷◌, ◌++◌, ◌∙◌}
+use Rattle.msrp_plan.proofs.Common.{ℕ, zero, suc, Bool, true, false, cond, List, [], map, replicate, refl, ap, sym, arith, append-nil, AllByRecursion, filter, range_with_len, sum_by, filter-append, sum_by-append, sum_by-cons, map-map, greatest, all_of, range_more}
 use Rattle.msrp_plan.proofs.Lists.Filters.{filter_map_same}
 
 -- the numbers of a range are below its end

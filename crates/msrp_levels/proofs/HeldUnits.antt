@@ -1,5 +1,6 @@
 -- How many resources are held along the units of a task.
-use Rattle.msrp_plan.proofs.Common.{◌≡◌, ℕ, ◌+◌, ◌-◌, ◌<◌, ◌≤◌, ◌==◌, nat_eq, Bool, true, false, cond, ◌||◌, List, [], ◌∷◌, ◌++◌, take, slice_get, Some, None, refl, ap, sym, ◌∙◌, arith, length, eq-eqb, list_any, lt-ltb, le-ltb, take_all, take_more, sum_by-cons, sum_by-take-le, length-filter, same_Some, none-some, slice_get_within, get_or_from_slice_get, true_from_ne_false, PlanModel, is_lock_of, locks, unlocks, holds_after, held_with, held_after, IsLocking, resources, in_resources, any_in, none_kept, even_after, held_push, held_times}
+use Rattle.std.proofs.Common.{◌≡◌, ◌+◌, ◌-◌, ◌<◌, ◌≤◌, ◌==◌, ◌||◌, ◌∷◌, ◌++◌, ◌∙◌}
+use Rattle.msrp_plan.proofs.Common.{ℕ, nat_eq, Bool, true, false, cond, List, [], take, slice_get, Some, None, refl, ap, sym, arith, length, eq-eqb, list_any, lt-ltb, le-ltb, take_all, take_more, sum_by-cons, sum_by-take-le, length-filter, same_Some, none-some, slice_get_within, get_or_from_slice_get, true_from_ne_false, PlanModel, is_lock_of, locks, unlocks, holds_after, held_with, held_after, IsLocking, resources, in_resources, any_in, none_kept, even_after, held_push, held_times}
 use Rattle.msrp_plan.specs.declared.units.Op.{Op}
 use Rattle.msrp_plan.specs.Bounds.{in_section}
 use Rattle.msrp_plan.specs.declared.units.Op.TheVariants.{Run, Lock, Unlock}

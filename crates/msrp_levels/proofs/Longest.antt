@@ -1,5 +1,6 @@
 -- No section is longer than the units of a task may be.
-use Rattle.msrp_plan.proofs.Common.{ℕ, zero, suc, ◌+◌, ◌*◌, ◌<◌, ◌≤◌, ◌==◌, Bool, true, false, cond, not, ◌&&◌, List, [], ◌∷◌, map, max, get_or, ap, sym, ◌∙◌, add-one, arith, length, AllByRecursion, filter, range_with_len, sum_by, PlanModel, TaskModel, no_task, task_at, is_lock_of, is_unlock_of, to_unlock, longest_section, section, spin_bound, IsPlan}
+use Rattle.std.proofs.Common.{◌+◌, ◌*◌, ◌<◌, ◌≤◌, ◌==◌, ◌&&◌, ◌∷◌, ◌∙◌}
+use Rattle.msrp_plan.proofs.Common.{ℕ, zero, suc, Bool, true, false, cond, not, List, [], map, max, get_or, ap, sym, add-one, arith, length, AllByRecursion, filter, range_with_len, sum_by, PlanModel, TaskModel, no_task, task_at, is_lock_of, is_unlock_of, to_unlock, longest_section, section, spin_bound, IsPlan}
 use Rattle.msrp_plan.specs.declared.units.Op.{Op}
 use Rattle.std.specs.List.{fold}
 use Rattle.msrp_plan.specs.Bounds.{is_used_on}

@@ -1,5 +1,6 @@
 -- The rows of outermost sections, unit by unit.
-use Rattle.msrp_plan.proofs.Common.{◌≡◌, ◌≢◌, ℕ, zero, suc, ◌+◌, ◌-◌, ◌*◌, ◌<◌, ◌≤◌, ◌==◌, Bool, true, false, cond, [], map, max, slice_get, Some, refl, ap, sym, subst, ◌∙◌, arith, length, eq-eqb, range_with_len, same_Some, PlanModel, TaskModel, greatest, wait_bound, IsLocking, not_equal}
+use Rattle.std.proofs.Common.{◌≡◌, ◌≢◌, ◌+◌, ◌-◌, ◌*◌, ◌<◌, ◌≤◌, ◌==◌, ◌∙◌}
+use Rattle.msrp_plan.proofs.Common.{ℕ, zero, suc, Bool, true, false, cond, [], map, max, slice_get, Some, refl, ap, sym, subst, arith, length, eq-eqb, range_with_len, same_Some, PlanModel, TaskModel, greatest, wait_bound, IsLocking, not_equal}
 use Rattle.msrp_plan.specs.declared.units.Op.{Op}
 use Rattle.msrp_plan.specs.Bounds.{in_section, section_start}
 use Rattle.msrp_plan.specs.declared.units.Op.TheVariants.{Run}

@@ -1,5 +1,6 @@
 -- The units of a task, passed from the last one back.
-use Rattle.msrp_plan.proofs.Common.{◌≡◌, ◌≢◌, ℕ, ◌+◌, ◌-◌, ◌^◌, ◌<◌, ◌≤◌, ◌==◌, Bool, true, false, cond, ◌||◌, List, [], ◌∷◌, max, drop, take, set, replicate, slice_get, get_or, Some, refl, ap, sym, ◌∙◌, inl, inr, arith, length, eqb-true, eq-eqb, list_any, true≢false, cases_eq, true_from_ne_false, length-set, get_or-set_same, get_or-set_other, drop_more, drop_all, get_or-map-range_with_len, length-map-range_with_len, length-filter, sum_by-take-le, slice_get_within, get_or_from_slice_get, PlanModel, is_lock_of, is_unlock_of, locks, unlocks, IsLocking, to_unlock, longest_section, none_kept, not_equal}
+use Rattle.std.proofs.Common.{◌≡◌, ◌≢◌, ◌+◌, ◌-◌, ◌^◌, ◌<◌, ◌≤◌, ◌==◌, ◌||◌, ◌∷◌, ◌∙◌}
+use Rattle.msrp_plan.proofs.Common.{ℕ, Bool, true, false, cond, List, [], max, drop, take, set, replicate, slice_get, get_or, Some, refl, ap, sym, inl, inr, arith, length, eqb-true, eq-eqb, list_any, true≢false, cases_eq, true_from_ne_false, length-set, get_or-set_same, get_or-set_other, drop_more, drop_all, get_or-map-range_with_len, length-map-range_with_len, length-filter, sum_by-take-le, slice_get_within, get_or_from_slice_get, PlanModel, is_lock_of, is_unlock_of, locks, unlocks, IsLocking, to_unlock, longest_section, none_kept, not_equal}
 use Rattle.msrp_plan.specs.declared.units.Op.{Op}
 use Rattle.msrp_plan.specs.declared.ids.ResId.{ResId}
 use Rattle.std.proofs.lemmas.List.{ext_get_or}

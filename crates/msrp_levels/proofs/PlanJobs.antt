@@ -1,5 +1,6 @@
 -- The jobs of a plan, by their tasks and numbers.
-use Rattle.msrp_plan.proofs.Common.{ℕ, zero, suc, ◌+◌, ◌<◌, ◌≤◌, ◌==◌, List, length, map, subst, sym, arith, inl, inr, Contains, flat_map, range_with_len, cases_Bool, eqb-false, Contains-append_left, Contains-append_right, length-map-range_with_len, get_or-map-range_with_len, PlanModel, jobs, jobs_of, job_at, IsPlan, jobs_of_are}
+use Rattle.std.proofs.Common.{◌+◌, ◌<◌, ◌≤◌, ◌==◌}
+use Rattle.msrp_plan.proofs.Common.{ℕ, zero, suc, List, length, map, subst, sym, arith, inl, inr, Contains, flat_map, range_with_len, cases_Bool, eqb-false, Contains-append_left, Contains-append_right, length-map-range_with_len, get_or-map-range_with_len, PlanModel, jobs, jobs_of, job_at, IsPlan, jobs_of_are}
 use Rattle.msrp_plan.specs.declared.ids.JobId.{JobId}
 use Rattle.std.proofs.lemmas.Bool.{eqb-true}
 

@@ -1,5 +1,6 @@
 -- The greatest over a range, where one number's value grows.
-use Rattle.msrp_plan.proofs.Common.{◌≡◌, ◌≢◌, ℕ, ◌+◌, ◌<◌, ◌≤◌, true, List, [], ◌∷◌, map, max, refl, ap, ◌∙◌, inl, inr, arith, AllByRecursion, filter, range_with_len, cases_eq, map-range_with_len_more, greatest, all_weaker, greatest_above, greatest_push}
+use Rattle.std.proofs.Common.{◌≡◌, ◌≢◌, ◌+◌, ◌<◌, ◌≤◌, ◌∷◌, ◌∙◌}
+use Rattle.msrp_plan.proofs.Common.{ℕ, true, List, [], map, max, refl, ap, inl, inr, arith, AllByRecursion, filter, range_with_len, cases_eq, map-range_with_len_more, greatest, all_weaker, greatest_above, greatest_push}
 use Rattle.msrp_plan.proofs.Lists.AnyAll.{in_range}
 use Rattle.msrp_levels.proofs.Gathered.{range_below}
 use Rattle.msrp_levels.proofs.Longest.{fold_max-le}

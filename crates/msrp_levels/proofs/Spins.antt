@@ -1,5 +1,6 @@
 -- The sum of the other cores' sections, core by core.
-use Rattle.msrp_plan.proofs.Common.{◌≡◌, ℕ, ◌+◌, ◌==◌, true, false, cond, not, ◌&&◌, List, ap, ◌∙◌, arith, filter, range_with_len, sum_by}
+use Rattle.std.proofs.Common.{◌≡◌, ◌+◌, ◌==◌, ◌&&◌, ◌∙◌}
+use Rattle.msrp_plan.proofs.Common.{ℕ, true, false, cond, not, List, ap, arith, filter, range_with_len, sum_by}
 use Rattle.msrp_levels.specs.declared.usage.CoreUse.{CoreUse}
 use Rattle.msrp_levels.specs.Usage.{core_use_at, is_other_user}
 use Rattle.msrp_levels.proofs.Gathered.{sum_more_range}

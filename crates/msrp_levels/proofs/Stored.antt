@@ -1,5 +1,6 @@
 -- What is stored by number, and read.
-use Rattle.msrp_plan.proofs.Common.{◌≡◌, ℕ, ◌+◌, ◌<◌, List, [], ◌∷◌, ◌++◌, map, get_or, ap, sym, subst, ◌∙◌, inl, inr, arith, length, range_with_len, cases_lt, get_or-map, get_or_push, get_or_append_left, length_push, length-map, get_or-map-range_with_len, length-map-range_with_len, PlanModel, section, spin_bound}
+use Rattle.std.proofs.Common.{◌≡◌, ◌+◌, ◌<◌, ◌∷◌, ◌++◌, ◌∙◌}
+use Rattle.msrp_plan.proofs.Common.{ℕ, List, [], map, get_or, ap, sym, subst, inl, inr, arith, length, range_with_len, cases_lt, get_or-map, get_or_push, get_or_append_left, length_push, length-map, get_or-map-range_with_len, length-map-range_with_len, PlanModel, section, spin_bound}
 use Rattle.msrp_levels.specs.declared.usage.CoreUse.{CoreUse}
 use Rattle.msrp_levels.specs.Usage.{IsUsage, AreUsages}
 use Rattle.msrp_levels.specs.declared.usage.Usage.{Usage}

@@ -1,5 +1,6 @@
 -- What is told of a resource by the tasks is what the plan says.
-use Rattle.msrp_plan.proofs.Common.{◌≡◌, ℕ, ◌+◌, ◌<◌, ◌≤◌, ◌==◌, Bool, not, ◌&&◌, List, map, get_or, refl, ap, ◌∙◌, arith, length, filter, range_with_len, sum_by, get_or-map-range_with_len, length-map-range_with_len, map-map, PlanModel, TaskModel, greatest, level_of, uses, top, longest_section, section, spin_bound, IsPlan, all_of, filter_same, all_weaker, all_filtered}
+use Rattle.std.proofs.Common.{◌≡◌, ◌+◌, ◌<◌, ◌≤◌, ◌==◌, ◌&&◌, ◌∙◌}
+use Rattle.msrp_plan.proofs.Common.{ℕ, Bool, not, List, map, get_or, refl, ap, arith, length, filter, range_with_len, sum_by, get_or-map-range_with_len, length-map-range_with_len, map-map, PlanModel, TaskModel, greatest, level_of, uses, top, longest_section, section, spin_bound, IsPlan, all_of, filter_same, all_weaker, all_filtered}
 use Rattle.msrp_plan.specs.Bounds.{is_used_on}
 use Rattle.msrp_levels.specs.declared.footprints.Footprint.{Footprint}
 use Rattle.msrp_levels.specs.declared.footprints.Use.{Use}

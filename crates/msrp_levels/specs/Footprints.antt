@@ -1,5 +1,6 @@
 -- What a task does with each resource.
-use Rattle.msrp_plan.specs.Common.{ℕ, List, Bool, true, false, map, max, drop, set, length, slice_index_or, ◌+◌, ◌-◌, ◌^◌, ◌<◌, ⊤, list_any, range_with_len, PlanModel, TaskModel, is_lock_of, level_of, most_resources}
+use Rattle.std.specs.Prelude.{◌+◌, ◌-◌, ◌^◌, ◌<◌}
+use Rattle.msrp_plan.specs.Common.{ℕ, List, Bool, true, false, map, max, drop, set, length, slice_index_or, ⊤, list_any, range_with_len, PlanModel, TaskModel, is_lock_of, level_of, most_resources}
 use Rattle.msrp_plan.specs.declared.units.Op.{Op}
 use Rattle.msrp_plan.specs.Bounds.{to_unlock, longest_section}
 use Rattle.msrp_plan.specs.declared.units.Op.TheVariants.{Run, Lock, Unlock}

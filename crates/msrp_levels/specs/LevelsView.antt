@@ -1,5 +1,6 @@
 -- What a clause sees of levels, and what their fields keep.
-use Rattle.msrp_plan.specs.Common.{length, map, ◌≡◌, range_with_len, PlanModel, level_of, top, out}
+use Rattle.std.specs.Prelude.{◌≡◌}
+use Rattle.msrp_plan.specs.Common.{length, map, range_with_len, PlanModel, level_of, top, out}
 use Rattle.msrp_levels.specs.Usage.{AreUsages}
 use Rattle.msrp_levels.specs.declared.levels.Levels.TheInside.{Inside}
 

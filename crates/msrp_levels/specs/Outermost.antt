@@ -1,5 +1,6 @@
 -- How the units of a task hold resources, as a pass over them counts.
-use Rattle.msrp_plan.specs.Common.{ℕ, ◌+◌, ◌-◌, ◌<◌, ⊤}
+use Rattle.std.specs.Prelude.{◌+◌, ◌-◌, ◌<◌}
+use Rattle.msrp_plan.specs.Common.{ℕ, ⊤}
 use Rattle.msrp_plan.specs.declared.units.Op.{Op}
 use Rattle.msrp_plan.specs.Limits.{most_units}
 use Rattle.msrp_plan.specs.declared.units.Op.TheVariants.{Run, Lock, Unlock}

@@ -1,6 +1,6 @@
 -- How a plan uses one resource.
-use Rattle.msrp_plan.specs.Common.{ℕ, List, Bool, map, max, not, length, slice_index_or, ◌==◌, ◌&&◌, ◌+◌, ◌<◌, ◌≤◌, ◌≡◌, false, true, range_with_len, sum_by, PlanModel, local_ceiling, section, spin_bound}
-use Rattle.std.specs.Prelude.{filter}
+use Rattle.msrp_plan.specs.Common.{ℕ, List, Bool, map, max, not, length, slice_index_or, false, true, range_with_len, sum_by, PlanModel, local_ceiling, section, spin_bound}
+use Rattle.std.specs.Prelude.{◌==◌, ◌&&◌, ◌+◌, ◌<◌, ◌≤◌, ◌≡◌, filter}
 use Rattle.msrp_plan.specs.Limits.{most_units}
 use Rattle.msrp_levels.specs.Users.{users}
 use Rattle.msrp_levels.specs.declared.usage.CoreUse.{CoreUse}

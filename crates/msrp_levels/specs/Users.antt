@@ -1,6 +1,6 @@
 -- What is asked of a plan beside levels and local ceilings.
-use Rattle.msrp_plan.specs.Common.{ℕ, List, length, if◌then◌else◌, range_with_len, PlanModel, task_at, uses, is_global, local_ceiling, top}
-use Rattle.std.specs.Prelude.{filter}
+use Rattle.msrp_plan.specs.Common.{ℕ, List, length, range_with_len, PlanModel, task_at, uses, is_global, local_ceiling, top}
+use Rattle.std.specs.Prelude.{if◌then◌else◌, filter}
 
 -- the numbers of the tasks that use the resource, in rising order
 abbrev pub users : PlanModel → ℕ → List ℕ

@@ -1,5 +1,6 @@
 //! What each task does with each resource, from one pass over its units.
-ghost use Rattle.msrp_plan.specs.Common.{◌≡◌, ◌<◌, ◌+◌, ◌^◌, length, map, IfOk, task_at, level_of, IsPlan, most_resources};
+ghost use Rattle.std.specs.Prelude.{◌≡◌, ◌<◌, ◌+◌, ◌^◌};
+ghost use Rattle.msrp_plan.specs.Common.{length, map, IfOk, task_at, level_of, IsPlan, most_resources};
 ghost use Rattle.msrp_levels.specs.Footprints.{with_lock, with_unlock, CanPass, passed, uses_of, footprint_of, locks_in, longest_in};
 
 use msrp_plan::limits::MOST_RESOURCES;

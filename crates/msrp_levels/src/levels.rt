@@ -1,5 +1,6 @@
 //! The levels and ceilings of a plan.
-ghost use Rattle.msrp_plan.specs.Common.{◌≡◌, ◌<◌, length, map, IfOk, task_at, level, is_global, top, section, spin_bound, out};
+ghost use Rattle.std.specs.Prelude.{◌≡◌, ◌<◌};
+ghost use Rattle.msrp_plan.specs.Common.{length, map, IfOk, task_at, level, is_global, top, section, spin_bound, out};
 ghost use Rattle.msrp_levels.specs.Usage.{IsUsage};
 ghost use Rattle.msrp_levels.specs.Users.{users, ceiling_at};
 

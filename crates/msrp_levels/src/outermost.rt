@@ -1,5 +1,6 @@
 //! How many rows a job has in one outermost section, at most.
-ghost use Rattle.msrp_plan.specs.Common.{◌≡◌, ◌<◌, ◌≤◌, length, map, Some, IfOk, task_at, out, IsPlan};
+ghost use Rattle.std.specs.Prelude.{◌≡◌, ◌<◌, ◌≤◌};
+ghost use Rattle.msrp_plan.specs.Common.{length, map, Some, IfOk, task_at, out, IsPlan};
 ghost use Rattle.msrp_plan.specs.Bounds.{wait_bound};
 ghost use Rattle.msrp_levels.specs.Outermost.{held_with_unit, CanFollow, IsLockBelow};
 ghost use Rattle.msrp_levels.specs.Usage.{AreUsages};

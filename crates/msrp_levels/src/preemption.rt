@@ -1,5 +1,6 @@
 //! Preemption levels: 1 and the number of distinct longer relative deadlines (Baker 1991).
-ghost use Rattle.msrp_plan.specs.Common.{◌≡◌, ◌≤◌, ◌+◌, nat_lt, count_by, length, map, vec_len, IfOk, TaskModel, level_of, most_tasks};
+ghost use Rattle.std.specs.Prelude.{◌≡◌, ◌≤◌, ◌+◌};
+ghost use Rattle.msrp_plan.specs.Common.{nat_lt, count_by, length, map, vec_len, IfOk, TaskModel, level_of, most_tasks};
 
 use msrp_plan::{Memory, Plan, TaskId};
 use std::alloc::Global;

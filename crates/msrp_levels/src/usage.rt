@@ -1,6 +1,6 @@
 //! How a plan uses each of its resources, told by its tasks.
-ghost use Rattle.msrp_plan.specs.Common.{◌≡◌, ◌==◌, ◌<◌, ◌≤◌, ◌^◌, ◌&&◌, length, map, IfOk, All, range_with_len, greatest, top, most_cores, most_resources};
-ghost use Rattle.std.specs.Prelude.{filter};
+ghost use Rattle.msrp_plan.specs.Common.{length, map, IfOk, All, range_with_len, greatest, top, most_cores, most_resources};
+ghost use Rattle.std.specs.Prelude.{◌≡◌, ◌==◌, ◌<◌, ◌≤◌, ◌^◌, ◌&&◌, filter};
 ghost use Rattle.msrp_levels.specs.Footprints.{footprint_of};
 ghost use Rattle.msrp_levels.specs.Usage.{spin_among, with_user, AreUsages, IsUsage, IsShort};
 

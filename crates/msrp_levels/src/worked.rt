@@ -1,6 +1,7 @@
 //! Worked examples of ceilings, computed from the definitions alone. The function does nothing; its contract is the
 //! example. The plans stand in `msrp_plan`.
-ghost use Rattle.msrp_plan.specs.Common.{◌≡◌, local_ceiling, top};
+ghost use Rattle.std.specs.Prelude.{◌≡◌};
+ghost use Rattle.msrp_plan.specs.Common.{local_ceiling, top};
 ghost use Rattle.msrp_levels.specs.Users.{ceiling_at};
 ghost use Rattle.msrp_plan.specs.Examples.PreemptsASection as preempts_a_section;
 ghost use Rattle.msrp_plan.specs.Examples.RaisedWhileHolding as raised_while_holding;

@@ -1,5 +1,6 @@
 -- A log that fits its book, and one turn more.
-use Rattle.msrp_plan.proofs.Common.{◌≡◌, true, false, cond, is_some, List, [], ◌∷◌, ◌++◌, None, refl, ap, sym, ◌∙◌, subst, zero, suc, append-nil, filter, filter-append, kind_of_call, all_push}
+use Rattle.std.proofs.Common.{◌≡◌, ◌∷◌, ◌++◌, ◌∙◌}
+use Rattle.msrp_plan.proofs.Common.{true, false, cond, is_some, List, [], None, refl, ap, sym, subst, zero, suc, append-nil, filter, filter-append, kind_of_call, all_push}
 use Rattle.msrp_plan.specs.declared.units.Call.{Call}
 use Rattle.msrp_plan.specs.declared.units.Call.TheVariants.{Ask, Poll, Leave}
 use Rattle.msrp_board.specs.declared.books.Entry.{Entry}

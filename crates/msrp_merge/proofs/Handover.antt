@@ -1,5 +1,6 @@
 -- The worked handover: its logs fit its books, and its history was served.
-use Rattle.msrp_plan.proofs.Common.{◌≡◌, ℕ, zero, suc, ◌<◌, true, false, length, refl, arith, inl, inr, ⊎_elim, AllByRecursion, filter, Legal, CoreRun, IsRun, IsRunStart, good_is_run}
+use Rattle.std.proofs.Common.{◌≡◌, ◌<◌}
+use Rattle.msrp_plan.proofs.Common.{ℕ, zero, suc, true, false, length, refl, arith, inl, inr, ⊎_elim, AllByRecursion, filter, Legal, CoreRun, IsRun, IsRunStart, good_is_run}
 use Rattle.msrp_plan.specs.Examples.HandoverATickLater as handover
 use Rattle.msrp_plan.specs.Examples.HandoverWithinATick as within_a_tick
 use Rattle.msrp_plan.proofs.Runs.CoreRuns.{core_run}

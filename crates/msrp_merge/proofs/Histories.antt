@@ -1,5 +1,6 @@
 -- The turns on a resource, in the order of the merged list, are the history of the resource.
-use Rattle.msrp_plan.proofs.Common.{◌≡◌, ℕ, ◌==◌, ◌<◌, ◌≤◌, Bool, true, false, cond, not, List, [], ◌∷◌, Option, Some, refl, ap, sym, ◌∙◌, subst, arith, ◌⊎◌, inl, inr, AllByRecursion, filter, is_lt, nat_cmp, ordering_then, Less, Equal, Greater, is_on, all_weaker, all_both}
+use Rattle.std.proofs.Common.{◌≡◌, ◌==◌, ◌<◌, ◌≤◌, ◌∷◌, ◌∙◌, ◌⊎◌}
+use Rattle.msrp_plan.proofs.Common.{ℕ, Bool, true, false, cond, not, List, [], Option, Some, refl, ap, sym, subst, arith, inl, inr, AllByRecursion, filter, is_lt, nat_cmp, ordering_then, Less, Equal, Greater, is_on, all_weaker, all_both}
 use Rattle.msrp_plan.specs.declared.ids.ResId.{ResId}
 use Rattle.std.specs.Option.{option_map}
 use Rattle.std.specs.Ordering.{bool_cmp}

@@ -1,5 +1,6 @@
 -- The merged list is a legal run, and its steps on each resource are the resource's history.
-use Rattle.msrp_plan.proofs.Common.{◌≡◌, ℕ, zero, suc, ◌+◌, ◌/◌, ◌<◌, ◌≤◌, Bool, true, false, cond, ◌&&◌, List, [], ◌∷◌, ◌++◌, length, refl, ap, sym, ◌∙◌, subst, arith, inl, inr, eq-eqb, ne_eqb, length-append, AllByRecursion, filter, true≢false, cases_lt, and_parts, and_from, length-map, map-append, PlanModel, carries_its_ahead, carries_ahead, is_on, EachAfter, IsCoreTurn, CoreRun, IsRun, is_of, log_of, Legal, IsPlan, all_of, undeclared_local}
+use Rattle.std.proofs.Common.{◌≡◌, ◌+◌, ◌/◌, ◌<◌, ◌≤◌, ◌&&◌, ◌∷◌, ◌++◌, ◌∙◌}
+use Rattle.msrp_plan.proofs.Common.{ℕ, zero, suc, Bool, true, false, cond, List, [], length, refl, ap, sym, subst, arith, inl, inr, eq-eqb, ne_eqb, length-append, AllByRecursion, filter, true≢false, cases_lt, and_parts, and_from, length-map, map-append, PlanModel, carries_its_ahead, carries_ahead, is_on, EachAfter, IsCoreTurn, CoreRun, IsRun, is_of, log_of, Legal, IsPlan, all_of, undeclared_local}
 use Rattle.msrp_plan.specs.declared.rows.Row.{Row}
 use Rattle.msrp_plan.specs.Logs.{AreInterleaved}
 use Rattle.msrp_plan.proofs.Lists.Filters.{filter_map_same}

@@ -1,6 +1,7 @@
 -- A worked merge: the logs of two cores of which one hands a resource over to the other, with the places that a board tells
 -- them, the books that they fit, and the resource's history.
-use Rattle.msrp_plan.specs.Common.{ℕ, List, [], ◌∷◌, true, false, Some, None}
+use Rattle.std.specs.Prelude.{◌∷◌}
+use Rattle.msrp_plan.specs.Common.{ℕ, List, [], true, false, Some, None}
 use Rattle.msrp_plan.specs.declared.ids.JobId.{JobId}
 use Rattle.msrp_plan.specs.declared.rows.Row.{Row}
 use Rattle.msrp_plan.specs.declared.units.Call.{Call}

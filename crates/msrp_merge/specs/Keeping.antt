@@ -1,6 +1,7 @@
 -- How a log keeps a turn: without its tick and core, which the log tells, and with a value in place of each part that a row of
 -- its kind lacks.
-use Rattle.msrp_plan.specs.Common.{ℕ, suc, List, [], ◌∷◌, true, false, Option, Some, None, ahead_of_kind, job_of_kind, res_of_kind}
+use Rattle.std.specs.Prelude.{◌∷◌}
+use Rattle.msrp_plan.specs.Common.{ℕ, suc, List, [], true, false, Option, Some, None, ahead_of_kind, job_of_kind, res_of_kind}
 use Rattle.msrp_plan.specs.Shape.{carrier_of_kind, shape_of_kind}
 use Rattle.msrp_merge.specs.declared.kept.Kept.{Kept}
 use Rattle.msrp_merge.specs.declared.kept.Touch.{Touch}

@@ -1,5 +1,6 @@
 -- Two lists whose elements belong together, one by one.
-use Rattle.msrp_plan.specs.Common.{List, [], ◌∷◌, ⊤}
+use Rattle.std.specs.Prelude.{◌∷◌}
+use Rattle.msrp_plan.specs.Common.{List, [], ⊤}
 
 -- the lists are of one length, and each element of the one stands in R to that of the other at its place
 abbrev pub Paired : {X Y : Type 0} → (X → Y → Type 0) → List X → List Y → Type 0

@@ -1,5 +1,6 @@
 -- The turns of a core as its log has them, and how a log fits the core's book on the board.
-use Rattle.msrp_plan.specs.Common.{◌≡◌, ℕ, List, Bool, true, false, Some, IfSome, map, is_some, filter, AllByRecursion, kind_of_call, ahead_of_call}
+use Rattle.std.specs.Prelude.{◌≡◌}
+use Rattle.msrp_plan.specs.Common.{ℕ, List, Bool, true, false, Some, IfSome, map, is_some, filter, AllByRecursion, kind_of_call, ahead_of_call}
 use Rattle.msrp_plan.specs.declared.rows.Kind.{Kind}
 use Rattle.msrp_plan.specs.declared.rows.Kind.TheVariants.{Take, Queue, Grant, Spin, Release}
 use Rattle.msrp_plan.specs.declared.rows.Row.{Row}

@@ -1,5 +1,6 @@
 -- A worked merge of steps on two resources in one tick: the logs of two cores, with the places that a board tells them.
-use Rattle.msrp_plan.specs.Common.{List, [], ◌∷◌}
+use Rattle.std.specs.Prelude.{◌∷◌}
+use Rattle.msrp_plan.specs.Common.{List, []}
 use Rattle.msrp_plan.specs.declared.ids.JobId.{JobId}
 use Rattle.msrp_plan.specs.Examples.Notation.{job, idle, run, take, release}
 use Rattle.msrp_merge.specs.Handover.{quiet, at}

@@ -1,5 +1,6 @@
 //! A turn as a log keeps it, in as few bytes as it needs.
-ghost use Rattle.msrp_plan.specs.Common.{◌≡◌, ◌≤◌, vec_capacity, ahead_of_kind, job_of_kind, res_of_kind};
+ghost use Rattle.std.specs.Prelude.{◌≡◌, ◌≤◌};
+ghost use Rattle.msrp_plan.specs.Common.{vec_capacity, ahead_of_kind, job_of_kind, res_of_kind};
 ghost use Rattle.msrp_merge.specs.Keeping.{place_of_touch, turn_of};
 
 use crate::logs::{Place, Turn};

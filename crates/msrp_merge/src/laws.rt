@@ -1,7 +1,7 @@
 //! Laws that the merge rests on. Each function does nothing; its contract is the law.
-ghost use Rattle.msrp_plan.specs.Common.{◌≡◌, ℕ, List, [], ◌∷◌, ◌++◌, None, map, true, false, PlanModel, EachAfter, is_fifo_reply, IsPlan};
+ghost use Rattle.msrp_plan.specs.Common.{ℕ, List, [], None, map, true, false, PlanModel, EachAfter, is_fifo_reply, IsPlan};
 ghost use Rattle.msrp_plan.specs.declared.rows.Row.{Row};
-ghost use Rattle.std.specs.Prelude.{filter};
+ghost use Rattle.std.specs.Prelude.{◌≡◌, ◌∷◌, ◌++◌, filter};
 ghost use Rattle.msrp_plan.specs.Examples.HandoverATickLater as handover_a_tick_later;
 ghost use Rattle.msrp_plan.specs.Examples.HandoverWithinATick as handover_within_a_tick;
 ghost use Rattle.msrp_plan.specs.Logs.{AreInterleaved};

@@ -1,5 +1,6 @@
 //! What a core did, turn by turn.
-ghost use Rattle.msrp_plan.specs.Common.{◌≡◌, ◌<◌, ◌++◌, ◌∷◌, [], length, slice_index_or, IfOk};
+ghost use Rattle.std.specs.Prelude.{◌≡◌, ◌<◌, ◌++◌, ◌∷◌};
+ghost use Rattle.msrp_plan.specs.Common.{[], length, slice_index_or, IfOk};
 ghost use Rattle.msrp_merge.specs.declared.logs.Turn.{Turn as TurnAt};
 
 use crate::kept::{Kept, prefault};

@@ -1,5 +1,6 @@
 //! The logs of two cores that hand a resource over, at the places that a board tells them, in one list of rows.
-ghost use Rattle.msrp_plan.specs.Common.{◌≡◌, Some, length, true, has_shape};
+ghost use Rattle.std.specs.Prelude.{◌≡◌};
+ghost use Rattle.msrp_plan.specs.Common.{Some, length, true, has_shape};
 
 use crate::logs::{CoreLog, Place, Turn};
 use crate::merging::{Merging, gathered};

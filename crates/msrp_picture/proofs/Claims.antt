@@ -1,5 +1,6 @@
 -- The ceiling that a core's rows tell is the policy's in each legal run.
-use Rattle.msrp_plan.proofs.Common.{◌≡◌, ◌≢◌, ℕ, ◌+◌, ◌<◌, ◌≤◌, Bool, true, false, cond, not, ◌==◌, ◌&&◌, ◌||◌, List, [], ◌∷◌, ◌++◌, map, Option, Some, None, refl, ap, sym, ◌∙◌, subst, arith, append-nil, length, max, slice_get, slice_set, take, inl, inr, ◌⊎◌, true≢false, and_parts, cases_Bool, cases_eq, cases_lt, false_from_ne_true, not-true, map-append, filter-append, length-map-range_with_len, fold_push, Contains, filter, list_any, range_with_len, greatest_push, on_its_core, is_job_is, row_of_job, same_is, same_self, DoesUnit, IsTurn, idle_res, legal_turn, turn_chosen, turn_core, greatest_above, any_from, kept_by, along, not_equal, log_other, log_own, units_lock, held_unlock, Grants, Locks, Releases, Runs, Spins, Takes, Unlocks, step_of, is_global_unit, res_of_unit, resources, done, holds, is_job, is_queued, is_row_of, is_waiting, jobs_on, same_job, greatest, is_global, local_ceiling, top, log_of, task_of, units, is_on, EachAfter, IsLegal, JobState, holds_after, is_lock_of, is_unlock_of, IsPlan}
+use Rattle.std.proofs.Common.{◌≡◌, ◌≢◌, ◌+◌, ◌<◌, ◌≤◌, ◌==◌, ◌&&◌, ◌||◌, ◌∷◌, ◌++◌, ◌∙◌, ◌⊎◌}
+use Rattle.msrp_plan.proofs.Common.{ℕ, Bool, true, false, cond, not, List, [], map, Option, Some, None, refl, ap, sym, subst, arith, append-nil, length, max, slice_get, slice_set, take, inl, inr, true≢false, and_parts, cases_Bool, cases_eq, cases_lt, false_from_ne_true, not-true, map-append, filter-append, length-map-range_with_len, fold_push, Contains, filter, list_any, range_with_len, greatest_push, on_its_core, is_job_is, row_of_job, same_is, same_self, DoesUnit, IsTurn, idle_res, legal_turn, turn_chosen, turn_core, greatest_above, any_from, kept_by, along, not_equal, log_other, log_own, units_lock, held_unlock, Grants, Locks, Releases, Runs, Spins, Takes, Unlocks, step_of, is_global_unit, res_of_unit, resources, done, holds, is_job, is_queued, is_row_of, is_waiting, jobs_on, same_job, greatest, is_global, local_ceiling, top, log_of, task_of, units, is_on, EachAfter, IsLegal, JobState, holds_after, is_lock_of, is_unlock_of, IsPlan}
 use Rattle.msrp_plan.specs.declared.rows.Kind.TheVariants.{Lock, Unlock}
 use Rattle.msrp_plan.specs.declared.units.Op.{Op}
 use Rattle.std.proofs.lemmas.Bool.{eqb-true}

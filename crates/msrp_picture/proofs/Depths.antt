@@ -1,5 +1,6 @@
 -- How many sections are open.
-use Rattle.msrp_plan.proofs.Common.{slice_index_or, ◌≡◌, ℕ, ◌+◌, ◌<◌, ◌≤◌, Bool, true, false, cond, ◌-◌, List, [], ◌∷◌, ◌++◌, length, take, drop, max, ap, sym, ◌∙◌, arith, drop_all, take_more, fold-append}
+use Rattle.std.proofs.Common.{◌≡◌, ◌+◌, ◌<◌, ◌≤◌, ◌-◌, ◌∷◌, ◌++◌, ◌∙◌}
+use Rattle.msrp_plan.proofs.Common.{slice_index_or, ℕ, Bool, true, false, cond, List, [], length, take, drop, max, ap, sym, arith, drop_all, take_more, fold-append}
 use Rattle.msrp_picture.specs.Types.{Row}
 use Rattle.msrp_picture.specs.Sections.{enters, leaves, most_open, open_behind, open_with}
 use Rattle.msrp_picture.proofs.Growing.{drop-at}

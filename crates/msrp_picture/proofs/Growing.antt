@@ -1,5 +1,6 @@
 -- Lists that grow part by part.
-use Rattle.msrp_plan.proofs.Common.{slice_index_or, ⊤, ◌≡◌, ℕ, ◌+◌, Bool, true, false, cond, List, [], ◌∷◌, ◌++◌, Result, Ok, Err, OnOk, refl, ap, sym, ◌∙◌, append_assoc, append-nil, arith, drop, length, map, ◌-◌, ◌<◌, ◌≤◌, flat_map-append, drop_more, filter-append, map-range_with_len_more, filter, flat_map, range_with_len, flat_more, range_more}
+use Rattle.std.proofs.Common.{◌≡◌, ◌+◌, ◌∷◌, ◌++◌, ◌∙◌, ◌-◌, ◌<◌, ◌≤◌}
+use Rattle.msrp_plan.proofs.Common.{slice_index_or, ⊤, ℕ, Bool, true, false, cond, List, [], Result, Ok, Err, OnOk, refl, ap, sym, append_assoc, append-nil, arith, drop, length, map, flat_map-append, drop_more, filter-append, map-range_with_len_more, filter, flat_map, range_with_len, flat_more, range_more}
 
 -- by one part, and then by another
 pub grows : {X : Type 0} (a b c x y : List X) → b ≡ a ++ x → c ≡ b ++ y → c ≡ a ++ (x ++ y)

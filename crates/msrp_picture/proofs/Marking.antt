@@ -1,5 +1,6 @@
 -- Marks of the ticks that are drawn, one for each.
-use Rattle.msrp_plan.proofs.Common.{◌≡◌, ◌≢◌, ℕ, zero, suc, ◌+◌, ◌<◌, ◌≤◌, ◌==◌, ◌||◌, Bool, true, false, List, [], ◌∷◌, ◌++◌, map, refl, ap, sym, ◌∙◌, arith, inl, inr, ◌⊎◌, slice_set, or-false, nat_tests, list_any-append, list_any, range_with_len, not_equal}
+use Rattle.std.proofs.Common.{◌≡◌, ◌≢◌, ◌+◌, ◌<◌, ◌≤◌, ◌==◌, ◌||◌, ◌∷◌, ◌++◌, ◌∙◌, ◌⊎◌}
+use Rattle.msrp_plan.proofs.Common.{ℕ, zero, suc, Bool, true, false, List, [], map, refl, ap, sym, arith, inl, inr, slice_set, or-false, nat_tests, list_any-append, list_any, range_with_len, not_equal}
 use Rattle.msrp_plan.proofs.Tests.{or_off}
 
 -- whether a tick is one of these

@@ -1,6 +1,6 @@
 -- Blocks: the stretches of rows in which one job has the turn of a core, or does the same; and the frame of the row that breaks a rule.
-use Rattle.msrp_plan.specs.Common.{ℕ, Option, true, List, [], ◌∷◌, Bool, ◌&&◌, None, if◌then◌else◌, max, min, nat_le, nat_lt, false, ◌==◌, Some, is_some, option_map, ◌+◌, ◌++◌, Ok, Err, ◌-◌, ⊤, flat_map, same_res, same_kind, is_of, same_choice}
-use Rattle.std.specs.Prelude.{filter, filter_map}
+use Rattle.msrp_plan.specs.Common.{ℕ, Option, true, List, [], Bool, None, max, min, nat_le, nat_lt, false, Some, is_some, option_map, Ok, Err, ⊤, flat_map, same_res, same_kind, is_of, same_choice}
+use Rattle.std.specs.Prelude.{◌∷◌, ◌&&◌, if◌then◌else◌, ◌==◌, ◌+◌, ◌++◌, ◌-◌, filter, filter_map}
 use Rattle.msrp_picture.specs.Types.{Event, Fault, JobId, Lane, Look, Owner, PlanModel, ResId, Result, Room, Row, Rule, Shape, Span, Window}
 use Rattle.msrp_picture.specs.Places.{left_of, row_room}
 use Rattle.msrp_picture.specs.declared.blocks.Owner.TheVariants.{Core, Task}

@@ -1,6 +1,6 @@
 -- The ceiling of a core, as its rows tell it.
-use Rattle.msrp_plan.specs.Common.{ℕ, List, [], ◌∷◌, ◌++◌, Bool, false, None, not, if◌then◌else◌, fold, length, map, nat_eq, take, ◌+◌, flat_map, range_with_len, resources, greatest, rows_on}
-use Rattle.std.specs.Prelude.{filter}
+use Rattle.msrp_plan.specs.Common.{ℕ, List, [], Bool, false, None, not, fold, length, map, nat_eq, take, flat_map, range_with_len, resources, greatest, rows_on}
+use Rattle.std.specs.Prelude.{◌∷◌, ◌++◌, if◌then◌else◌, ◌+◌, filter}
 use Rattle.msrp_levels.specs.Users.{ceiling_at}
 use Rattle.msrp_picture.specs.Types.{PlanModel, Room, Row, Shape, Span, Window}
 use Rattle.msrp_picture.specs.Blocks.{lane_of, lasting, merged, seen}

@@ -1,5 +1,6 @@
 -- What one cell of a picture shows: a byte of ASCII.
-use Rattle.msrp_plan.specs.Common.{ℕ, List, Bool, ◌&&◌, not, Option, Some, None, if◌then◌else◌, codes, decimal, nat_lt, nat_eq, slice_index_or, ◌-◌, ◌%◌, length, map, slice_get, min, take, ◌+◌, ◌*◌, range_with_len, fifo}
+use Rattle.std.specs.Prelude.{◌&&◌, if◌then◌else◌, ◌-◌, ◌%◌, ◌+◌, ◌*◌}
+use Rattle.msrp_plan.specs.Common.{ℕ, List, Bool, not, Option, Some, None, codes, decimal, nat_lt, nat_eq, slice_index_or, length, map, slice_get, min, take, range_with_len, fifo}
 use Rattle.msrp_plan.specs.declared.rows.Kind.TheVariants.{Grant, Idle, Lock, Queue, Release, Run, Spin, Take, Unlock}
 use Rattle.msrp_picture.specs.Types.{Aspect, JobId, Kind, PlanModel, Row, Standing, Window}
 use Rattle.msrp_picture.specs.Windows.{begun}

@@ -1,6 +1,7 @@
 -- Shapes as elements of SVG (W3C 2011), as text: what each tells where one points at it, and the words in a block. Lengths are in units of
 -- the picture.
-use Rattle.msrp_plan.specs.Common.{ℕ, List, [], ◌∷◌, ◌++◌, true, false, Option, Some, None, if◌then◌else◌, codes, decimal, length, nat_eq, nat_le, slice_index_or, ◌-◌, ◌*◌, Bool, ◌%◌, task_at, task_of, rule_text}
+use Rattle.std.specs.Prelude.{◌∷◌, ◌++◌, if◌then◌else◌, ◌-◌, ◌*◌, ◌%◌}
+use Rattle.msrp_plan.specs.Common.{ℕ, List, [], true, false, Option, Some, None, codes, decimal, length, nat_eq, nat_le, slice_index_or, Bool, task_at, task_of, rule_text}
 use Rattle.msrp_plan.specs.Words.{kind_text}
 use Rattle.msrp_picture.specs.Types.{CoreId, Event, JobId, Kind, Look, Moment, Note, PlanModel, ResId, Shape, Span, Window, Words}
 use Rattle.msrp_picture.specs.Cells.{letter, sign}

@@ -1,7 +1,7 @@
 -- The life of a job, from its release to its end, and what is drawn of it: the line of its life, red behind its absolute deadline, and
 -- arrows at its release and its deadline.
-use Rattle.msrp_plan.specs.Common.{ℕ, List, if◌then◌else◌, fold, ◌+◌, ◌++◌, Some, None, length, flat_map, range_with_len, is_finished, is_row_of, job_at, jobs_of, release, task_of}
-use Rattle.std.specs.Prelude.{filter}
+use Rattle.msrp_plan.specs.Common.{ℕ, List, fold, Some, None, length, flat_map, range_with_len, is_finished, is_row_of, job_at, jobs_of, release, task_of}
+use Rattle.std.specs.Prelude.{if◌then◌else◌, ◌+◌, ◌++◌, filter}
 use Rattle.msrp_picture.specs.Types.{Event, JobId, Life, Moment, PlanModel, Room, Row, Shape, Span, Window}
 use Rattle.msrp_picture.specs.Blocks.{lasting, met, seen}
 use Rattle.msrp_picture.specs.Windows.{begun}

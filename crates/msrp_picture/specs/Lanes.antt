@@ -1,6 +1,6 @@
 -- The lanes of cores, tasks and global resources.
-use Rattle.msrp_plan.specs.Common.{ℕ, List, [], ◌∷◌, ◌++◌, if◌then◌else◌, length, nat_eq, ◌+◌, ◌-◌, ◌%◌, Option, Some, option_map, flat_map, range_with_len, level, log_of, task_at}
-use Rattle.std.specs.Prelude.{filter_map}
+use Rattle.msrp_plan.specs.Common.{ℕ, List, [], length, nat_eq, Option, Some, option_map, flat_map, range_with_len, level, log_of, task_at}
+use Rattle.std.specs.Prelude.{◌∷◌, ◌++◌, if◌then◌else◌, ◌+◌, ◌-◌, ◌%◌, filter_map}
 use Rattle.std.specs.List.{enumerate_from}
 use Rattle.msrp_picture.specs.Types.{CoreId, PlanModel, ResId, Room, Row, Shape, Span, Standing, TaskId, Window}
 use Rattle.msrp_picture.specs.Blocks.{lane_of, lasting, merged, rows_shapes, seen, task_rows}

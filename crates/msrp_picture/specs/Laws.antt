@@ -1,6 +1,6 @@
 -- What a picture in SVG promises, in the words of schedules.
-use Rattle.msrp_plan.specs.Common.{◌≡◌, ℕ, List, Bool, true, false, ◌&&◌, ◌==◌, Option, count_by, length, map, ◌≤◌, ◌<◌, ◌+◌, ◌-◌, ⊤, flat_map, range_with_len, ceiling, job_at, jobs_of, same_job, log_of, release, IsRunStart, IsPlan}
-use Rattle.std.specs.Prelude.{filter_map}
+use Rattle.msrp_plan.specs.Common.{ℕ, List, Bool, true, false, Option, count_by, length, map, ⊤, flat_map, range_with_len, ceiling, job_at, jobs_of, same_job, log_of, release, IsRunStart, IsPlan}
+use Rattle.std.specs.Prelude.{◌≡◌, ◌&&◌, ◌==◌, ◌≤◌, ◌<◌, ◌+◌, ◌-◌, filter_map}
 use Rattle.msrp_picture.specs.Types.{Fault, JobId, Lane, Moment, PlanModel, Result, Row, Shape, Span, Window}
 use Rattle.msrp_picture.specs.Blocks.{merged, span_of}
 use Rattle.msrp_picture.specs.Ceilings.{told_ceiling}

@@ -1,6 +1,6 @@
 -- The lines of a picture: each has a label, and a cell for each tick that is drawn.
-use Rattle.msrp_plan.specs.Common.{ℕ, List, Bool, true, false, ◌==◌, codes, map, ◌-◌, [], ◌∷◌, ◌++◌, ◌&&◌, Option, Some, None, if◌then◌else◌, decimal, is_some, length, replicate, slice_index_or, ◌%◌, list_any, range_with_len, cons_option, flat_map, jobs_on, is_global, is_of, log_of, key, release}
-use Rattle.std.specs.Prelude.{filter}
+use Rattle.msrp_plan.specs.Common.{ℕ, List, Bool, true, false, codes, map, [], Option, Some, None, decimal, is_some, length, replicate, slice_index_or, list_any, range_with_len, cons_option, flat_map, jobs_on, is_global, is_of, log_of, key, release}
+use Rattle.std.specs.Prelude.{◌==◌, ◌-◌, ◌∷◌, ◌++◌, ◌&&◌, if◌then◌else◌, ◌%◌, filter}
 use Rattle.std.specs.List.{zip}
 use Rattle.msrp_picture.specs.Types.{Aspect, JobId, Moment, PictureLine, PlanModel, Row, Window}
 use Rattle.msrp_picture.specs.Cells.{byte, mark, no_mark, nothing, row_cell, standing_cell, standings, tick_cell}

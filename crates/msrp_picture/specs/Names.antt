@@ -1,5 +1,6 @@
 -- The names of lanes: beside them, and in wide windows again above them, where no block lies.
-use Rattle.msrp_plan.specs.Common.{ℕ, List, [], ◌∷◌, ◌++◌, ◌+◌, ◌-◌, ◌*◌, ◌/◌, flat_map, range_with_len}
+use Rattle.std.specs.Prelude.{◌∷◌, ◌++◌, ◌+◌, ◌-◌, ◌*◌, ◌/◌}
+use Rattle.msrp_plan.specs.Common.{ℕ, List, [], flat_map, range_with_len}
 use Rattle.msrp_picture.specs.Types.{Room, Shape, Window, Words}
 use Rattle.msrp_picture.specs.Places.{left_of}
 use Rattle.msrp_picture.specs.declared.lanes.TheConstants.{NAME_END, NAME_PITCH}

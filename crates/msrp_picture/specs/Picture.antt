@@ -1,6 +1,7 @@
 -- A picture of a trace, as text: the verdict, the ticks that are drawn, the lines in parts of so many ticks, and what letters and
 -- signs mean.
-use Rattle.msrp_plan.specs.Common.{ℕ, List, [], ◌∷◌, ◌++◌, Option, Ok, Err, codes, decimal, drop, length, slice_range, ◌+◌, ◌-◌, ◌*◌, ⊤, ◌≡◌, flat_map, range_with_len, task_at, verdict_text}
+use Rattle.std.specs.Prelude.{◌∷◌, ◌++◌, ◌+◌, ◌-◌, ◌*◌, ◌≡◌}
+use Rattle.msrp_plan.specs.Common.{ℕ, List, [], Option, Ok, Err, codes, decimal, drop, length, slice_range, ⊤, flat_map, range_with_len, task_at, verdict_text}
 use Rattle.msrp_picture.specs.Types.{Drawn, Fault, PictureLine, PlanModel, Result, Row, Window}
 use Rattle.msrp_picture.specs.Cells.{letter}
 use Rattle.msrp_picture.specs.Lines.{cells, lines_of, name_of}

@@ -1,6 +1,6 @@
 -- Places in a picture in SVG, in its units: the cores, each with its own lane and those of its ceilings and its tasks, and below them the lanes of the global resources.
-use Rattle.msrp_plan.specs.Common.{ℕ, Bool, ◌&&◌, ◌||◌, ◌==◌, nat_lt, if◌then◌else◌, Option, Some, None, length, max, min, ◌+◌, ◌-◌, ◌*◌, ◌/◌, range_with_len, task_at}
-use Rattle.std.specs.Prelude.{filter}
+use Rattle.msrp_plan.specs.Common.{ℕ, Bool, nat_lt, Option, Some, None, length, max, min, range_with_len, task_at}
+use Rattle.std.specs.Prelude.{◌&&◌, ◌||◌, ◌==◌, if◌then◌else◌, ◌+◌, ◌-◌, ◌*◌, ◌/◌, filter}
 use Rattle.msrp_picture.specs.Types.{JobId, PlanModel, Room, Row, Window}
 use Rattle.msrp_picture.specs.Lines.{global_resources}
 use Rattle.msrp_picture.specs.declared.places.TheConstants.{CEILING_HEIGHT, CORE_HEAD, CORE_HEIGHT, CORE_PITCH, LEFT, NARROWEST_TICK, QUEUE_HEAD, QUEUE_HEIGHT, QUEUE_PITCH, SECTION_LEVELS, SECTION_ROOM, TASK_HEIGHT, TASK_PITCH, TOP, WIDEST_TICK, WINDOW_WIDTH}

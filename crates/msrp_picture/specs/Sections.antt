@@ -1,5 +1,6 @@
 -- The sections of jobs, from the row that locks a resource to the one that unlocks it, as they are drawn in the lanes of their tasks.
-use Rattle.msrp_plan.specs.Common.{ℕ, List, [], ◌∷◌, Bool, true, false, ◌&&◌, Option, Some, None, if◌then◌else◌, drop, find, fold, length, max, take, ◌+◌, ◌-◌, ◌*◌, flat_map, range_with_len, same_res, same_choice}
+use Rattle.std.specs.Prelude.{◌∷◌, ◌&&◌, if◌then◌else◌, ◌+◌, ◌-◌, ◌*◌}
+use Rattle.msrp_plan.specs.Common.{ℕ, List, [], Bool, true, false, Option, Some, None, drop, find, fold, length, max, take, flat_map, range_with_len, same_res, same_choice}
 use Rattle.msrp_plan.specs.declared.rows.Kind.TheVariants.{Grant, Lock, Release, Take, Unlock}
 use Rattle.msrp_picture.specs.Types.{Kind, Room, Row, Shape, Span, Strip, Window}
 use Rattle.msrp_picture.specs.Blocks.{lasting, seen}

@@ -1,6 +1,7 @@
 -- A picture of a trace in SVG: the verdict, a lane for each core with who has its turn, one with its ceiling, below them a lane for each of its tasks with what
 -- that does, a lane for each global resource with its queue, and the first row that breaks a rule.
-use Rattle.msrp_plan.specs.Common.{ℕ, List, ◌++◌, Option, Ok, Err, codes, decimal, max, min, ◌+◌, ⊤, flat_map, verdict_text}
+use Rattle.std.specs.Prelude.{◌++◌, ◌+◌}
+use Rattle.msrp_plan.specs.Common.{ℕ, List, Option, Ok, Err, codes, decimal, max, min, ⊤, flat_map, verdict_text}
 use Rattle.msrp_picture.specs.Types.{Fault, PlanModel, Result, Row, Shape, Window}
 use Rattle.msrp_picture.specs.Blocks.{broken_shapes}
 use Rattle.msrp_picture.specs.Elements.{attribute, shape_text}

@@ -1,5 +1,6 @@
 -- The ticks that are drawn, and what of a trace: the rows of a legal run; or those before the first that breaks a rule, and that one.
-use Rattle.msrp_plan.specs.Common.{ℕ, List, Bool, ◌&&◌, nat_lt, nat_le, Option, Some, None, Ok, Err, if◌then◌else◌, is_none, min, length, slice_range, unwrap_or, ◌<◌, ◌+◌, ◌-◌, ◌*◌, ◌/◌, ◌%◌, ⊤, [], drop, take, slice_get}
+use Rattle.std.specs.Prelude.{◌&&◌, if◌then◌else◌, ◌<◌, ◌+◌, ◌-◌, ◌*◌, ◌/◌, ◌%◌}
+use Rattle.msrp_plan.specs.Common.{ℕ, List, Bool, nat_lt, nat_le, Option, Some, None, Ok, Err, is_none, min, length, slice_range, unwrap_or, ⊤, [], drop, take, slice_get}
 use Rattle.msrp_picture.specs.Types.{Asked, Fault, PlanModel, Result, Row, Window}
 use Rattle.msrp_picture.specs.declared.windows.TheConstants.{LINE_TICKS, SHORT_RUN}
 

@@ -1,6 +1,6 @@
 //! Blocks: the stretches of rows in which one job has the turn of a core, or does the same; and the frame of the row that breaks a rule.
-ghost use Rattle.msrp_plan.specs.Common.{◌≡◌, ◌∷◌, ◌++◌, [], OnOk, IfOk, List, flat_map};
-ghost use Rattle.std.specs.Prelude.{filter_map};
+ghost use Rattle.msrp_plan.specs.Common.{[], OnOk, IfOk, List, flat_map};
+ghost use Rattle.std.specs.Prelude.{◌≡◌, ◌∷◌, ◌++◌, filter_map};
 ghost use Rattle.msrp_picture.specs.Blocks.{blocks, broken_shapes, goes_on, is_seen, joined, lane_of, look_of, mark_shapes, merged, met, res_of, rows_shapes, same_look, seen, span_of};
 ghost use Rattle.msrp_picture.specs.declared.shapes.Span.{Span as Shown};
 

@@ -1,5 +1,6 @@
 //! The ceiling of a core after each of its ticks, as the core's rows tell it.
-ghost use Rattle.msrp_plan.specs.Common.{◌≡◌, ◌<◌, ◌-◌, ◌^◌, ◌∷◌, ◌++◌, [], List, length, IfOk, OnOk, log_of, PlanModel};
+ghost use Rattle.std.specs.Prelude.{◌≡◌, ◌<◌, ◌-◌, ◌^◌, ◌∷◌, ◌++◌};
+ghost use Rattle.msrp_plan.specs.Common.{[], List, length, IfOk, OnOk, log_of, PlanModel};
 ghost use Rattle.msrp_plan.specs.declared.rows.Row.{Row as TraceRow};
 ghost use Rattle.msrp_picture.specs.Ceilings.{ceiling_shapes, ceiling_spans, claims, raised, told_ceiling};
 ghost use Rattle.msrp_picture.specs.Places.{ceiling_room};

@@ -1,5 +1,6 @@
 //! What one cell of a picture shows, and the queue of a resource, tick by tick.
-ghost use Rattle.msrp_plan.specs.Common.{◌≡◌, ◌≤◌, ◌+◌, ◌++◌, ℕ, List, length, ◌^◌, OnOk, IfOk};
+ghost use Rattle.std.specs.Prelude.{◌≡◌, ◌≤◌, ◌+◌, ◌++◌, ◌^◌};
+ghost use Rattle.msrp_plan.specs.Common.{ℕ, List, length, OnOk, IfOk};
 ghost use Rattle.msrp_plan.specs.Requests.{HasTaken};
 ghost use Rattle.msrp_plan.specs.declared.rows.Row.{Row as TraceRow};
 ghost use Rattle.msrp_picture.specs.Cells.{job_cell, letter, letters, row_cell, sign, standing_cell, standing_of, standings, tick_cell, turn_cell, waiting};

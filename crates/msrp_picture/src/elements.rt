@@ -1,5 +1,6 @@
 //! The one writer of shapes: elements of SVG, as text, with what each tells where one points at it.
-ghost use Rattle.msrp_plan.specs.Common.{◌≡◌, ◌++◌, OnOk, decimal, flat_map, task_at};
+ghost use Rattle.std.specs.Prelude.{◌≡◌, ◌++◌};
+ghost use Rattle.msrp_plan.specs.Common.{OnOk, decimal, flat_map, task_at};
 ghost use Rattle.msrp_picture.specs.Elements.{arrow_text, attribute, block_head, block_text, colour, core_text, deed_text, event_title, first_text, held_name, job_name, job_told, look_class, look_told, moment_text, note_text, res_told, roomy_text, shade, shape_text, span_title, title_text, whose_told, word_text, words_class, words_text};
 
 use crate::Added;

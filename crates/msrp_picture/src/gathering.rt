@@ -1,5 +1,6 @@
 //! The items of a chain in a list.
-ghost use Rattle.msrp_plan.specs.Common.{◌≡◌, List, length, IfOk, ⊤};
+ghost use Rattle.std.specs.Prelude.{◌≡◌};
+ghost use Rattle.msrp_plan.specs.Common.{List, length, IfOk, ⊤};
 ghost use Rattle.std.specs.Iterator.{DrainsIf, IsFinite};
 ghost use Rattle.std.specs.Vec.{vec_len};
 

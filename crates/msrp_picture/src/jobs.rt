@@ -1,5 +1,6 @@
 //! The life of a job, and what is drawn of it: its line, red behind its absolute deadline, and arrows at its release and its deadline.
-ghost use Rattle.msrp_plan.specs.Common.{◌≡◌, ◌<◌, ◌&&◌, cond, length, IfOk, IsSome, ◌++◌, ◌^◌, OnOk, done, is_row_of, log_of, release_tick};
+ghost use Rattle.std.specs.Prelude.{◌≡◌, ◌<◌, ◌&&◌, ◌++◌, ◌^◌};
+ghost use Rattle.msrp_plan.specs.Common.{cond, length, IfOk, IsSome, OnOk, done, is_row_of, log_of, release_tick};
 ghost use Rattle.msrp_picture.specs.Blocks.{is_job_of, task_rows};
 ghost use Rattle.msrp_picture.specs.Jobs.{after_last, event_of, late_span, life_of, life_shapes, life_span, task_jobs};
 ghost use Rattle.msrp_picture.specs.Places.{task_room};

@@ -1,5 +1,6 @@
 //! The lanes of cores, tasks and global resources, each with its name: beside it, and in wide windows again above it, where no block lies.
-ghost use Rattle.msrp_plan.specs.Common.{◌≡◌, ◌<◌, ◌≤◌, ◌+◌, ◌^◌, ◌++◌, length, IfOk, OnOk};
+ghost use Rattle.std.specs.Prelude.{◌≡◌, ◌<◌, ◌≤◌, ◌+◌, ◌^◌, ◌++◌};
+ghost use Rattle.msrp_plan.specs.Common.{length, IfOk, OnOk};
 ghost use Rattle.msrp_picture.specs.Names.{again, names, note_of, repeats};
 ghost use Rattle.msrp_picture.specs.Lanes.{axis, core_shapes, cores_shapes, held, queue_shapes, queue_spans, queues_shapes, task_head, task_life, tasks_shapes, tick_note};
 

@@ -1,5 +1,6 @@
 //! The lines of a picture, each over all ticks that are drawn.
-ghost use Rattle.msrp_plan.specs.Common.{◌≡◌, ◌++◌, None, length, map, IfOk, OnOk, ◌<◌, ◌==◌, ◌∷◌, [], ℕ, List, if◌then◌else◌, IsSome, AllByRecursion, flat_map, jobs_of, release_tick, task_at};
+ghost use Rattle.std.specs.Prelude.{◌≡◌, ◌++◌, ◌<◌, ◌==◌, ◌∷◌, if◌then◌else◌};
+ghost use Rattle.msrp_plan.specs.Common.{None, length, map, IfOk, OnOk, [], ℕ, List, IsSome, AllByRecursion, flat_map, jobs_of, release_tick, task_at};
 ghost use Rattle.msrp_picture.specs.Lines.{are_in, broken_on, cells, core_lines, core_rows, event_cell, event_cells, global_resources, lines_of, mark_cells, moment_ticks, queue_cells, queue_lines, row_cells, tick_cells, tick_of};
 ghost use Rattle.msrp_picture.specs.Picture.{IsDrawn, line_of};
 

@@ -1,5 +1,6 @@
 //! A picture of a trace, as text.
-ghost use Rattle.msrp_plan.specs.Common.{◌≡◌, ◌<◌, ◌≤◌, ◌+◌, ◌++◌, codes, decimal, drop, length, slice_index_or, slice_range, [], ◌*◌, IfOk, OnOk, flat_map, range_with_len, verdict_text};
+ghost use Rattle.std.specs.Prelude.{◌≡◌, ◌<◌, ◌≤◌, ◌+◌, ◌++◌, ◌*◌};
+ghost use Rattle.msrp_plan.specs.Common.{codes, decimal, drop, length, slice_index_or, slice_range, [], IfOk, OnOk, flat_map, range_with_len, verdict_text};
 ghost use Rattle.msrp_picture.specs.Lines.{name_of};
 ghost use Rattle.msrp_picture.specs.Picture.{drawn_picture, drawn_text, fault_place, label, legend_text, signs_text, spaces, task_text, window_text};
 ghost use Rattle.msrp_picture.specs.Windows.{parts};

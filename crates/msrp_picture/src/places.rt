@@ -1,5 +1,6 @@
 //! Places in a picture in SVG, in its units.
-ghost use Rattle.msrp_plan.specs.Common.{◌≡◌, ℕ, ◌<◌, ◌≤◌, ◌*◌, ◌^◌, length};
+ghost use Rattle.std.specs.Prelude.{◌≡◌, ◌<◌, ◌≤◌, ◌*◌, ◌^◌};
+ghost use Rattle.msrp_plan.specs.Common.{ℕ, length};
 ghost use Rattle.msrp_picture.specs.Lines.{global_resources};
 ghost use Rattle.msrp_picture.specs.Places.{bottom, ceiling_room, core_room, core_top, is_above, left_of, queue_room, row_room, section_height, task_room, tasks_above, tick_width};
 

@@ -1,6 +1,6 @@
 //! The sections of jobs, in the lanes of their tasks. A section within another one lies below it.
-ghost use Rattle.msrp_plan.specs.Common.{◌≡◌, ◌<◌, ◌≤◌, ◌++◌, ◌^◌, find, OnOk, length};
-ghost use Rattle.std.specs.Prelude.{option_copied};
+ghost use Rattle.msrp_plan.specs.Common.{find, OnOk, length};
+ghost use Rattle.std.specs.Prelude.{◌≡◌, ◌<◌, ◌≤◌, ◌++◌, ◌^◌, option_copied};
 ghost use Rattle.msrp_picture.specs.Places.{task_room};
 ghost use Rattle.msrp_picture.specs.Sections.{ends_section, enters, first_section, leaves, log_sections, most_open, open_with, section_end, section_span, sections};
 ghost use Rattle.msrp_picture.specs.Windows.{begun};

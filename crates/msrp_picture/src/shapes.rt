@@ -1,5 +1,5 @@
 //! What a picture in SVG is made of, as data. Times are ticks; heights are units of the picture.
-ghost use Rattle.msrp_plan.specs.Common.{◌≡◌};
+ghost use Rattle.std.specs.Prelude.{◌≡◌};
 ghost use Rattle.msrp_picture.specs.Blocks.{lasting};
 
 use msrp_plan::{CoreId, JobId, Kind, ResId, Rule, TaskId};

@@ -1,5 +1,6 @@
 //! A picture of a trace in SVG, and which picture is drawn.
-ghost use Rattle.msrp_plan.specs.Common.{◌≡◌, ◌++◌, IfOk, OnOk};
+ghost use Rattle.std.specs.Prelude.{◌≡◌, ◌++◌};
+ghost use Rattle.msrp_plan.specs.Common.{IfOk, OnOk};
 ghost use Rattle.msrp_picture.specs.Styles.{drawing};
 ghost use Rattle.msrp_picture.specs.Svg.{caption_text, drawn_shapes, drawn_svg, head_text, picture_width, style_text, svg_window};
 ghost use Rattle.msrp_picture.specs.Windows.{IsWindow};

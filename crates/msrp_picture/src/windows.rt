@@ -1,5 +1,5 @@
 //! The ticks that are drawn, and what of a trace.
-ghost use Rattle.msrp_plan.specs.Common.{◌≡◌, ◌<◌, ◌≤◌, ◌+◌, ◌*◌};
+ghost use Rattle.std.specs.Prelude.{◌≡◌, ◌<◌, ◌≤◌, ◌+◌, ◌*◌};
 ghost use Rattle.msrp_picture.specs.Windows.{IsWindow, begun, broken_row, due_in, goes_on_in, later_rows, legal_rows, parts, round, rows_between, shown_window, window_of};
 
 use crate::Verdict;

@@ -82,7 +82,7 @@ pub use Rattle.std.specs.List.{All, AllByRecursion, Contains, cons_option, filte
 pub use Rattle.std.specs.List.Sorted.{IsNonDecreasingBy, IsPermutation}
 pub use Rattle.std.specs.Option.{ForSome, IsSomeAnd, option_and_then, option_or, option_to_list}
 pub use Rattle.std.specs.Ordering.{is_lt, nat_cmp, ordering_then}
-pub use Rattle.std.specs.Prelude.{Bool, Err, IfErr, IfNone, IfOk, IfSome, IsSome, List, None, Ok, OnOk, Option, Result, Some, Vec, [], codes, cond, count_by, decimal, drop, eqb, false, fold, get_or, if◌then◌else◌, is_none, is_some, leb, length, ltb, map, max, min, nat_eq, nat_le, nat_lt, not, ok_or, option_map, replicate, reverse, set, slice_get, slice_index, slice_index_or, slice_set, suc, take, true, vec_capacity, vec_items, vec_len, zero, ℕ, ⊤, ◌%◌, ◌&&◌, ◌*◌, ◌++◌, ◌+◌, ◌-◌, ◌/◌, ◌<◌, ◌==◌, ◌^◌, ◌||◌, ◌∷◌, ◌≡◌, ◌≢◌, ◌≤◌, ◌⊎◌}
+pub use Rattle.std.specs.Prelude.{Bool, Err, IfErr, IfNone, IfOk, IfSome, IsSome, List, None, Ok, OnOk, Option, Result, Some, Vec, [], codes, cond, count_by, decimal, drop, eqb, false, fold, get_or, is_none, is_some, leb, length, ltb, map, max, min, nat_eq, nat_le, nat_lt, not, ok_or, option_map, replicate, reverse, set, slice_get, slice_index, slice_index_or, slice_set, suc, take, true, vec_capacity, vec_items, vec_len, zero, ℕ, ⊤}
 pub use Rattle.std.specs.Str.{bytes_eq}
 pub use Rattle.std.specs.Vec.{with_item}
 pub use Rattle.std.specs.Vec.Iter.{into_iter_items, into_iter_len}
@@ -93,7 +93,7 @@ pub use lib.ListN.{get_elem?, length-append, length-drop}
 pub use mathlib.Core.List.{append-nil, append_assoc}
 pub use mathlib.Core.Logic.{dite, inl, inr, ⊎_elim}
 pub use mathlib.Core.Option.{none, some, some-injective, some-ne-none}
-pub use mathlib.Core.Path.{ap, refl, subst, sym, ◌∙◌}
+pub use mathlib.Core.Path.{ap, refl, subst, sym}
 pub use native.Mathlib.Decide.{ℕ_discrete}
 pub use native.Mathlib.Nat.{mul_comm}
 pub use native.Mathlib.Numerals.{add-one}

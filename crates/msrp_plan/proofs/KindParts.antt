@@ -1,11 +1,11 @@
 -- The parts of a row, by its kind.
-use Rattle.msrp_plan.specs.Common.{◌≡◌, ℕ, true, Option, Some, None, is_some, ahead_of_kind, has_shape, job_of_kind, may_carry, res_of_kind}
+use Rattle.msrp_plan.specs.Common.{ℕ, true, Option, Some, None, is_some, ahead_of_kind, has_shape, job_of_kind, may_carry, res_of_kind}
 use Rattle.msrp_plan.specs.declared.ids.JobId.{JobId}
 use Rattle.msrp_plan.specs.declared.ids.ResId.{ResId}
 use Rattle.msrp_plan.specs.declared.rows.Kind.{Kind}
 use Rattle.msrp_plan.specs.declared.rows.Kind.TheVariants.{Idle, Run, Queue}
 use Rattle.msrp_plan.specs.declared.rows.Row.{Row}
-use Rattle.std.proofs.Common.{refl}
+use Rattle.std.proofs.Common.{◌≡◌, refl}
 use Rattle.std.specs.Option.{unwrap_or}
 use Rattle.msrp_plan.proofs.Legality.SameRow.{parts}
 

@@ -1,8 +1,8 @@
 -- Kinds of rows.
-use Rattle.msrp_plan.specs.Common.{◌≡◌, true, same_kind}
+use Rattle.msrp_plan.specs.Common.{true, same_kind}
 use Rattle.msrp_plan.specs.declared.rows.Kind.{Kind}
 use Rattle.msrp_plan.specs.declared.rows.Kind.TheVariants.{Idle, Run, Lock, Unlock, Take, Queue, Spin, Grant, Release}
-use Rattle.std.proofs.Common.{refl}
+use Rattle.std.proofs.Common.{◌≡◌, refl}
 
 -- those that are tested to be the same are the same
 pub same_kind_is : (k l : Kind) → same_kind k l ≡ true → k ≡ l

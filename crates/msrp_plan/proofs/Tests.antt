@@ -1,6 +1,6 @@
 -- Facts on tests that the kit's library lacks.
-use Rattle.msrp_plan.specs.Common.{◌≡◌, ℕ, ◌<◌, ◌≤◌, Bool, true, false, not, cond, ◌||◌, nat_le}
-use Rattle.std.proofs.Common.{refl, sym, ap, ◌∙◌, arith}
+use Rattle.msrp_plan.specs.Common.{ℕ, Bool, true, false, not, cond, nat_le}
+use Rattle.std.proofs.Common.{◌≡◌, ◌<◌, ◌≤◌, ◌||◌, refl, sym, ap, ◌∙◌, arith}
 use Rattle.std.proofs.lemmas.Bool.Decides.{nat_tests}
 
 -- tests that imply each other are one

@@ -1,7 +1,7 @@
 -- Facts on bytes that a writer is known to hold.
-use Rattle.msrp_plan.specs.Common.{◌≡◌, ℕ, ◌+◌, ◌-◌, ◌≤◌, List, [], ◌++◌, length, take, drop, Option, Bool, true, false, Wrote}
+use Rattle.msrp_plan.specs.Common.{ℕ, List, [], length, take, drop, Option, Bool, true, false, Wrote}
 use Rattle.msrp_plan.specs.declared.bytes.Sink.{Sink}
-use Rattle.std.proofs.Common.{length-drop, refl, sym, append_assoc, ◌∙◌, arith}
+use Rattle.std.proofs.Common.{◌≡◌, ◌+◌, ◌-◌, ◌≤◌, ◌++◌, length-drop, refl, sym, append_assoc, ◌∙◌, arith}
 use Rattle.std.specs.Io.KnownBytes.{Appends}
 use Rattle.std.proofs.KnownBytes.{Appends-nil, Appends-trans}
 use Rattle.std.proofs.lemmas.List.{take-append-drop, take_all}

@@ -35,7 +35,7 @@ pub use Rattle.std.specs.List.Sorted.{IsNonDecreasingBy, IsPermutation}
 pub use Rattle.std.specs.Map.{values_of}
 pub use Rattle.std.specs.Option.{ForSome, IsSomeAnd, option_and_then, option_or}
 pub use Rattle.std.specs.Ordering.{is_lt, nat_cmp, ordering_then}
-pub use Rattle.std.specs.Prelude.{Bool, Err, IfErr, IfNone, IfOk, IfSome, IsOkAnd, IsSome, IsTrue, List, None, Ok, OnErr, OnOk, Option, Some, [], codes, cond, count_by, decimal, drop, false, find, fold, get_or, if◌then◌else◌, is_none, is_some, length, map, max, min, nat_eq, nat_le, nat_lt, not, ok_or, option_map, replicate, reverse, set, slice_get, slice_index, slice_index_or, slice_range, slice_set, string_bytes, suc, take, true, unwrap_or, vec_capacity, vec_len, zero, ℕ, ⊤, ◌%◌, ◌&&◌, ◌*◌, ◌++◌, ◌+◌, ◌-◌, ◌/◌, ◌<◌, ◌==◌, ◌^◌, ◌||◌, ◌↔◌, ◌∷◌, ◌≡◌, ◌≢◌, ◌≤◌, ◌⊎◌}
+pub use Rattle.std.specs.Prelude.{Bool, Err, IfErr, IfNone, IfOk, IfSome, IsOkAnd, IsSome, IsTrue, List, None, Ok, OnErr, OnOk, Option, Some, [], codes, cond, count_by, decimal, drop, false, find, fold, get_or, is_none, is_some, length, map, max, min, nat_eq, nat_le, nat_lt, not, ok_or, option_map, replicate, reverse, set, slice_get, slice_index, slice_index_or, slice_range, slice_set, string_bytes, suc, take, true, unwrap_or, vec_capacity, vec_len, zero, ℕ, ⊤}
 pub use Rattle.std.specs.Str.{bytes_eq}
 pub use Rattle.std.specs.declared.alloc.Global.{Global}
 pub use Rattle.std.specs.declared.result.Result.{Result}

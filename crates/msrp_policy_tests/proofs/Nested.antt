@@ -1,5 +1,6 @@
 -- The first resources, held one within the other.
-use Rattle.msrp_plan.proofs.Common.{◌≡◌, ℕ, zero, suc, ◌≤◌, ◌||◌, false, refl, ap, nat_eq, length, arith, ◌∙◌, list_any}
+use Rattle.std.proofs.Common.{◌≡◌, ◌≤◌, ◌||◌, ◌∙◌}
+use Rattle.msrp_plan.proofs.Common.{ℕ, zero, suc, false, refl, ap, nat_eq, length, arith, list_any}
 use Rattle.std.proofs.lemmas.Bool.{ne_eqb}
 use Rattle.msrp_policy_tests.specs.Nested.{nested}
 

@@ -1,5 +1,6 @@
 -- The port of the tests: one core has a room, and no other.
-use Rattle.msrp_plan.specs.Common.{ℕ, List, ◌==◌, if◌then◌else◌}
+use Rattle.std.specs.Prelude.{◌==◌, if◌then◌else◌}
+use Rattle.msrp_plan.specs.Common.{ℕ, List}
 use Rattle.msrp_plan.specs.declared.ids.CoreId.{CoreId}
 use Rattle.msrp_core.specs.Ports.{PortModel}
 use Rattle.msrp_core.specs.declared.port.PortCall.{PortCall}

@@ -1,5 +1,6 @@
 -- The resources of the tests, held one within the other.
-use Rattle.msrp_plan.specs.Common.{ℕ, zero, suc, List, [], ◌∷◌}
+use Rattle.std.specs.Prelude.{◌∷◌}
+use Rattle.msrp_plan.specs.Common.{ℕ, zero, suc, List, []}
 
 -- the first n, the innermost first
 abbrev pub nested : ℕ → List ℕ

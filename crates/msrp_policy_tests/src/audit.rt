@@ -1,5 +1,6 @@
 //! An auditor that is fed row by row: the handover of a global resource between two cores within one tick.
-ghost use Rattle.msrp_plan.specs.Common.{◌≡◌, Some, true, has_shape};
+ghost use Rattle.std.specs.Prelude.{◌≡◌};
+ghost use Rattle.msrp_plan.specs.Common.{Some, true, has_shape};
 ghost use Rattle.msrp_plan.specs.declared.ids.JobId.{JobId as Job};
 ghost use Rattle.msrp_plan.specs.declared.ids.ResId.{ResId as Resource};
 

@@ -1,5 +1,5 @@
 //! Plans small enough to follow by hand, with what the literature's rules make of them.
-ghost use Rattle.msrp_plan.specs.Common.{◌≡◌};
+ghost use Rattle.std.specs.Prelude.{◌≡◌};
 
 use crate::plans::plan_of;
 use msrp_levels::Levels;

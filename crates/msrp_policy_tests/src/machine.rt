@@ -1,5 +1,6 @@
 //! A machine over a port of the tests' own: it does what the port answers, also where no request is ever granted.
-ghost use Rattle.msrp_plan.specs.Common.{◌≡◌, ◌<◌, ◌≤◌, ◌+◌, ◌==◌, cond, vec_len, vec_capacity, IfOk};
+ghost use Rattle.std.specs.Prelude.{◌≡◌, ◌<◌, ◌≤◌, ◌+◌, ◌==◌};
+ghost use Rattle.msrp_plan.specs.Common.{cond, vec_len, vec_capacity, IfOk};
 ghost use Rattle.msrp_core.specs.Ports.{PortModel, Adds, claim_in};
 ghost use Rattle.msrp_policy_tests.specs.Deaf.{deaf_port};
 

@@ -1,5 +1,6 @@
 //! Jobs that start, lock and finish on a core, worked by hand.
-ghost use Rattle.msrp_plan.specs.Common.{◌≡◌, ◌<◌, ◌∷◌, [], IfOk, IsSome, length, true, Contains, release_tick, jobs_on, is_global, is_before};
+ghost use Rattle.std.specs.Prelude.{◌≡◌, ◌<◌, ◌∷◌};
+ghost use Rattle.msrp_plan.specs.Common.{[], IfOk, IsSome, length, true, Contains, release_tick, jobs_on, is_global, is_before};
 ghost use Rattle.msrp_policy_tests.specs.Nested.{nested};
 
 use crate::plans::plan_of;

@@ -1,5 +1,6 @@
 -- Jobs are released, and the head is taken: what the calendar and the heap then keep.
-use Rattle.msrp_plan.proofs.Common.{◌≡◌, ◌==◌, ℕ, zero, suc, ◌+◌, ◌-◌, ◌*◌, ◌<◌, ◌≤◌, Bool, true, false, not, cond, ◌&&◌, ◌||◌, List, [], ◌∷◌, ◌++◌, map, take, drop, length, get_or, Option, Some, None, refl, ap, sym, ◌∙◌, subst, inl, inr, arith, append_assoc, append-nil, length-append, All, AllByRecursion, Contains, filter, ForSome, IsPermutation, IsNonDecreasingBy, true≢false, cases_Bool, cases_lt, le-leb, take-append-drop, length-take-le, length-map, map-append, All-nil, All-weaker, recursion_from_All, All-contains_itself, Contains-append_right, filter-append, list_any-append, sum_by-cons, sum_by-append, sum_by-take-le, length-filter, count_by-le-length, IsPermutation-refl, IsPermutation-trans, IsPermutation-sym, length_permutation, Contains-permutation, PlanModel, core_of, release, key, jobs, jobs_on, same_job, IsPlan, same_is, same_symm}
+use Rattle.std.proofs.Common.{◌≡◌, ◌==◌, ◌+◌, ◌-◌, ◌*◌, ◌<◌, ◌≤◌, ◌&&◌, ◌||◌, ◌∷◌, ◌++◌, ◌∙◌}
+use Rattle.msrp_plan.proofs.Common.{ℕ, zero, suc, Bool, true, false, not, cond, List, [], map, take, drop, length, get_or, Option, Some, None, refl, ap, sym, subst, inl, inr, arith, append_assoc, append-nil, length-append, All, AllByRecursion, Contains, filter, ForSome, IsPermutation, IsNonDecreasingBy, true≢false, cases_Bool, cases_lt, le-leb, take-append-drop, length-take-le, length-map, map-append, All-nil, All-weaker, recursion_from_All, All-contains_itself, Contains-append_right, filter-append, list_any-append, sum_by-cons, sum_by-append, sum_by-take-le, length-filter, count_by-le-length, IsPermutation-refl, IsPermutation-trans, IsPermutation-sym, length_permutation, Contains-permutation, PlanModel, core_of, release, key, jobs, jobs_on, same_job, IsPlan, same_is, same_symm}
 use Rattle.msrp_plan.specs.declared.ids.JobId.{JobId}
 use Rattle.msrp_plan.specs.declared.ids.JobKey.{JobKey}
 use Rattle.std.specs.List.{count_by}

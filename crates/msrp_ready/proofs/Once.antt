@@ -1,5 +1,6 @@
 -- Each job stands once among the jobs of a core.
-use Rattle.msrp_plan.proofs.Common.{◌≡◌, ℕ, zero, suc, ◌+◌, ◌<◌, ◌≤◌, ◌==◌, ◌&&◌, nat_eq, Bool, true, false, cond, List, [], ◌∷◌, length, refl, ap, sym, ◌∙◌, inl, inr, arith, sum_by, filter, flat_map, range_with_len, cases_Bool, sum_by-cons, sum_by-append, PlanModel, core_of, IsPlan, jobs_of, jobs, jobs_on, same_job, jobs_of_are}
+use Rattle.std.proofs.Common.{◌≡◌, ◌+◌, ◌<◌, ◌≤◌, ◌==◌, ◌&&◌, ◌∷◌, ◌∙◌}
+use Rattle.msrp_plan.proofs.Common.{ℕ, zero, suc, nat_eq, Bool, true, false, cond, List, [], length, refl, ap, sym, inl, inr, arith, sum_by, filter, flat_map, range_with_len, cases_Bool, sum_by-cons, sum_by-append, PlanModel, core_of, IsPlan, jobs_of, jobs, jobs_on, same_job, jobs_of_are}
 use Rattle.msrp_plan.specs.declared.ids.JobId.{JobId}
 use Rattle.std.specs.List.{count_by}
 use Rattle.std.proofs.lemmas.Bool.{eqb-true}

@@ -1,8 +1,8 @@
 -- Whether a tick releases a job of the core, that was not released before.
-use Rattle.msrp_plan.proofs.Common.{◌≡◌, ℕ, ◌<◌, ◌≤◌, ◌^◌, nat_le, Bool, true, false, not, ◌&&◌, List, [], ◌∷◌, take, drop, length, get_or, Option, Some, None, ap, sym, ◌∙◌, subst, inl, inr, arith, AllByRecursion, Contains, list_any, ForSome, and-false, and-true, cases_Bool, cases_lt, leb-false, lt-leb, and_from, or_parts, take-append-drop, get_or-drop, get_or_default, get_or-map, All-contains, All-contains_itself, All-weaker, Contains-append_right, Contains-append_cases, PlanModel, release, key, jobs_on, is_released, is_before, least, first_ready, any_in, none_kept, filter_same}
+use Rattle.msrp_plan.proofs.Common.{ℕ, nat_le, Bool, true, false, not, List, [], take, drop, length, get_or, Option, Some, None, ap, sym, subst, inl, inr, arith, AllByRecursion, Contains, list_any, ForSome, and-false, and-true, cases_Bool, cases_lt, leb-false, lt-leb, and_from, or_parts, take-append-drop, get_or-drop, get_or_default, get_or-map, All-contains, All-contains_itself, All-weaker, Contains-append_right, Contains-append_cases, PlanModel, release, key, jobs_on, is_released, is_before, least, first_ready, any_in, none_kept, filter_same}
 use Rattle.msrp_plan.specs.declared.ids.JobId.{JobId}
 use Rattle.msrp_plan.specs.declared.ids.JobKey.{JobKey}
-use Rattle.std.proofs.Common.{add-zero}
+use Rattle.std.proofs.Common.{◌≡◌, ◌<◌, ◌≤◌, ◌^◌, ◌&&◌, ◌∷◌, ◌∙◌, add-zero}
 use Rattle.std.proofs.lemmas.List.{length-drop}
 use Rattle.std.proofs.lemmas.List.Elements.{Contains-get_or}
 use Rattle.std.proofs.lemmas.List.Folds.{list_any_none}

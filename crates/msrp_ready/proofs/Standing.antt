@@ -1,5 +1,6 @@
 -- What the calendar and the heap say of the ready jobs: who stands in the heap is ready, and its first is the head.
-use Rattle.msrp_plan.proofs.Common.{◌≡◌, ℕ, ◌+◌, ◌<◌, ◌≤◌, nat_le, Bool, true, false, not, cond, ◌&&◌, ◌||◌, List, [], ◌∷◌, ◌++◌, map, take, drop, length, get_or, Option, Some, None, refl, ap, sym, ◌∙◌, subst, inl, inr, arith, All, Contains, filter, list_any, IsNonDecreasingBy, ForSome, is_lt, IsUpperBound, true≢false, cases_Bool, leb-true, le-leb, lt-leb, and_parts, not-true, take-append-drop, get_or-drop, length-map, get_or-map, All-contains, All-contains_itself, All-from_recursion, Contains-append_left, Contains-append_right, Contains-append_cases, IsPermutation-sym, All-permutation, Contains-permutation, PlanModel, release, key, jobs_on, same_job, is_before, least, before_order, tied, same_is, same_self, least_passes, least_in, least_some, least_of_those, any_in}
+use Rattle.std.proofs.Common.{◌≡◌, ◌+◌, ◌<◌, ◌≤◌, ◌&&◌, ◌||◌, ◌∷◌, ◌++◌, ◌∙◌}
+use Rattle.msrp_plan.proofs.Common.{ℕ, nat_le, Bool, true, false, not, cond, List, [], map, take, drop, length, get_or, Option, Some, None, refl, ap, sym, subst, inl, inr, arith, All, Contains, filter, list_any, IsNonDecreasingBy, ForSome, is_lt, IsUpperBound, true≢false, cases_Bool, leb-true, le-leb, lt-leb, and_parts, not-true, take-append-drop, get_or-drop, length-map, get_or-map, All-contains, All-contains_itself, All-from_recursion, Contains-append_left, Contains-append_right, Contains-append_cases, IsPermutation-sym, All-permutation, Contains-permutation, PlanModel, release, key, jobs_on, same_job, is_before, least, before_order, tied, same_is, same_self, least_passes, least_in, least_some, least_of_those, any_in}
 use Rattle.msrp_plan.specs.declared.ids.JobId.{JobId}
 use Rattle.msrp_plan.specs.declared.ids.JobKey.{JobKey}
 use Rattle.std.proofs.lemmas.Bool.{and_right, not-false}

@@ -1,5 +1,6 @@
 -- Jobs beside their releases, and by their keys.
-use Rattle.msrp_plan.specs.Common.{List, map, ◌+◌, Option, Some, None, if◌then◌else◌, is_lt, PlanModel, release, task_at, key_cmp}
+use Rattle.std.specs.Prelude.{◌+◌, if◌then◌else◌}
+use Rattle.msrp_plan.specs.Common.{List, map, Option, Some, None, is_lt, PlanModel, release, task_at, key_cmp}
 use Rattle.msrp_plan.specs.declared.ids.JobId.{JobId}
 use Rattle.msrp_plan.specs.declared.ids.JobKey.{JobKey}
 use Rattle.msrp_ready.specs.declared.keyed.Entry.{Entry}

@@ -1,7 +1,8 @@
 -- What a clause sees of a job that is kept by its key: the key, in which the job stands. It is kept as one number, of which the deadline
 -- is the greatest part; then come 16 bits of the release, 8 of the task and 16 of the job's number. So two keys compare as their
 -- numbers do.
-use Rattle.msrp_plan.specs.Common.{◌≡◌, ℕ, ◌+◌, ◌*◌, ◌^◌, ◌/◌, ◌%◌}
+use Rattle.std.specs.Prelude.{◌≡◌, ◌+◌, ◌*◌, ◌^◌, ◌/◌, ◌%◌}
+use Rattle.msrp_plan.specs.Common.{ℕ}
 use Rattle.msrp_plan.specs.declared.ids.JobKey.{JobKey}
 use Rattle.std.proofs.Common.{ap, arith}
 use Rattle.msrp_ready.specs.declared.keyed.KeyedJob.TheInside.{Inside}

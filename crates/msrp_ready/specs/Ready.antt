@@ -1,5 +1,6 @@
 -- The ready jobs of a core: released and not yet taken.
-use Rattle.msrp_plan.specs.Common.{ℕ, List, Bool, false, not, ◌&&◌, nat_le, Option, Some, None, count_by, list_any, option_and_then, PlanModel, release, jobs_on, same_job}
+use Rattle.std.specs.Prelude.{◌&&◌}
+use Rattle.msrp_plan.specs.Common.{ℕ, List, Bool, false, not, nat_le, Option, Some, None, count_by, list_any, option_and_then, PlanModel, release, jobs_on, same_job}
 use Rattle.msrp_plan.specs.declared.ids.JobId.{JobId}
 use Rattle.msrp_plan.specs.Choice.{first_ready}
 

@@ -1,8 +1,8 @@
 -- What a clause sees of the ready jobs, and what their fields keep.
-use Rattle.msrp_plan.specs.Common.{ℕ, List, Bool, true, false, not, Option, map, length, take, drop, slice_index_or, ◌≡◌, ◌≤◌, ◌<◌, ◌+◌, ◌*◌, ◌^◌, ◌++◌, All, list_any, IsPermutation, IsNonDecreasingBy, PlanModel, key, jobs_on, same_job, IsPlan, most_jobs}
+use Rattle.msrp_plan.specs.Common.{ℕ, List, Bool, true, false, not, Option, map, length, take, drop, slice_index_or, All, list_any, IsPermutation, IsNonDecreasingBy, PlanModel, key, jobs_on, same_job, IsPlan, most_jobs}
 use Rattle.msrp_plan.specs.declared.ids.JobId.{JobId}
 use Rattle.msrp_plan.specs.declared.ids.JobKey.{JobKey}
-use Rattle.std.specs.Prelude.{filter}
+use Rattle.std.specs.Prelude.{◌≡◌, ◌≤◌, ◌<◌, ◌+◌, ◌*◌, ◌^◌, ◌++◌, filter}
 use Rattle.msrp_ready.specs.Keyed.{entry_keys, job_of}
 use Rattle.msrp_ready.specs.Heap.{HeapModel}
 use Rattle.msrp_ready.specs.Ready.{ReadyModel, has_come}

@@ -1,5 +1,6 @@
 //! The calendar of a core: its jobs in the order of their releases, each beside its release.
-ghost use Rattle.msrp_plan.specs.Common.{◌≡◌, ◌<◌, ◌≤◌, ◌+◌, ◌-◌, ◌*◌, ◌^◌, ◌++◌, length, map, take, drop, slice_index_or, IfOk, OnOk, All, IsPermutation, IsNonDecreasingBy, jobs_of, jobs_on, IsPlan, most_jobs};
+ghost use Rattle.std.specs.Prelude.{◌≡◌, ◌<◌, ◌≤◌, ◌+◌, ◌-◌, ◌*◌, ◌^◌, ◌++◌};
+ghost use Rattle.msrp_plan.specs.Common.{length, map, take, drop, slice_index_or, IfOk, OnOk, All, IsPermutation, IsNonDecreasingBy, jobs_of, jobs_on, IsPlan, most_jobs};
 ghost use Rattle.msrp_ready.specs.Keyed.{entry, entry_keys};
 ghost use Rattle.msrp_ready.specs.ReadyView.{IsComing};
 ghost use Rattle.msrp_ready.specs.declared.keyed.Entry.{Entry};

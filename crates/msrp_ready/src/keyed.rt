@@ -1,6 +1,6 @@
 //! Jobs beside their releases, and by their keys.
-ghost use Rattle.msrp_plan.specs.Common.{◌≡◌, ◌<◌, ◌++◌, [], length, IfSome, IfNone, All, Contains, IsPlan};
-ghost use Rattle.std.specs.Prelude.{option_to_list};
+ghost use Rattle.msrp_plan.specs.Common.{[], length, IfSome, IfNone, All, Contains, IsPlan};
+ghost use Rattle.std.specs.Prelude.{◌≡◌, ◌<◌, ◌++◌, option_to_list};
 ghost use Rattle.std.specs.BinaryHeap.{IsUpperBound};
 ghost use Rattle.msrp_ready.specs.Heap.{least_on_top};
 ghost use Rattle.msrp_ready.specs.Keyed.{earlier_of, entry_keys};

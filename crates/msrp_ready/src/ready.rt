@@ -1,5 +1,6 @@
 //! The ready jobs of a core.
-ghost use Rattle.msrp_plan.specs.Common.{◌≡◌, ◌<◌, ◌≤◌, ◌+◌, ◌-◌, ◌*◌, ◌||◌, [], ℕ, None, Some, true, false, IfOk, IfNone, IfSome, ForSome, is_job};
+ghost use Rattle.std.specs.Prelude.{◌≡◌, ◌<◌, ◌≤◌, ◌+◌, ◌-◌, ◌*◌, ◌||◌};
+ghost use Rattle.msrp_plan.specs.Common.{[], ℕ, None, Some, true, false, IfOk, IfNone, IfSome, ForSome, is_job};
 ghost use Rattle.msrp_plan.specs.declared.ids.JobId.{JobId as Job};
 ghost use Rattle.msrp_ready.specs.Ready.{head, is_among, has_release_by, released};
 

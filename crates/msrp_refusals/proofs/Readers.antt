@@ -1,5 +1,6 @@
 -- What the readers of a core's seat tell is what its calls want.
-use Rattle.msrp_plan.proofs.Common.{◌≡◌, ℕ, Bool, false, sym, ◌∙◌}
+use Rattle.std.proofs.Common.{◌≡◌, ◌∙◌}
+use Rattle.msrp_plan.proofs.Common.{ℕ, Bool, false, sym}
 use Rattle.msrp_plan.specs.declared.units.Phase.{Phase}
 use Rattle.msrp_board.specs.declared.answers.SeatPhase.{SeatPhase}
 use Rattle.msrp_board.specs.declared.answers.SeatPhase.TheVariants.{Admitted}

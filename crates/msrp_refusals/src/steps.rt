@@ -1,5 +1,6 @@
 //! The worked steps of two cores on the word of one resource: a request each, polls, and a release each.
-ghost use Rattle.msrp_plan.specs.Common.{◌≡◌, ◌<◌, IfSome, OnOk};
+ghost use Rattle.std.specs.Prelude.{◌≡◌, ◌<◌};
+ghost use Rattle.msrp_plan.specs.Common.{IfSome, OnOk};
 ghost use Rattle.msrp_board.specs.Seats.{IsCoreSeatOn};
 
 use msrp_board::{Board, BoardError, BoardSeat, Conductor, Look, SeatPhase};

@@ -1,5 +1,6 @@
 -- One row more: which jobs are started and unfinished.
-use Rattle.msrp_plan.proofs.Common.{◌≡◌, ◌≢◌, ℕ, ◌<◌, ◌≤◌, ◌==◌, Bool, true, false, not, ◌&&◌, ◌||◌, List, [], ◌∷◌, ◌++◌, Some, None, refl, ap, sym, ◌∙◌, subst, arith, ◌⊎◌, inl, inr, eqb-true, length, length-append, slice_get, slice_set, get_or, vec_capacity, AllByRecursion, Contains, filter, list_any, or-false, or-true, cases_Bool, eqb-false, false_from_ne_true, length-set, All-contains_itself, recursion_from_All, same_Some, slice_get_read, PlanModel, core_of, jobs, jobs_on, is_job, is_row_of, same_job, is_started, is_finished, IsLegal, IsRunStart, IsPlan, on_its_core, row_of_job, same_is, same_self, same_symm, legal_turn, turn_core, all_both, all_push, any_in, any_push, all_filtered, each_before, start_last}
+use Rattle.std.proofs.Common.{◌≡◌, ◌≢◌, ◌<◌, ◌≤◌, ◌==◌, ◌&&◌, ◌||◌, ◌∷◌, ◌++◌, ◌∙◌, ◌⊎◌}
+use Rattle.msrp_plan.proofs.Common.{ℕ, Bool, true, false, not, List, [], Some, None, refl, ap, sym, subst, arith, inl, inr, eqb-true, length, length-append, slice_get, slice_set, get_or, vec_capacity, AllByRecursion, Contains, filter, list_any, or-false, or-true, cases_Bool, eqb-false, false_from_ne_true, length-set, All-contains_itself, recursion_from_All, same_Some, slice_get_read, PlanModel, core_of, jobs, jobs_on, is_job, is_row_of, same_job, is_started, is_finished, IsLegal, IsRunStart, IsPlan, on_its_core, row_of_job, same_is, same_self, same_symm, legal_turn, turn_core, all_both, all_push, any_in, any_push, all_filtered, each_before, start_last}
 use Rattle.std.specs.List.{IsDistinct}
 use Rattle.msrp_plan.specs.declared.ids.JobId.{JobId}
 use Rattle.msrp_plan.specs.declared.rows.Row.{Row}

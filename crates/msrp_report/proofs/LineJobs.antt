@@ -1,5 +1,6 @@
 -- The line of a task, job by job.
-use Rattle.msrp_plan.proofs.Common.{◌≡◌, ℕ, zero, suc, ◌<◌, ◌≤◌, ◌+◌, Bool, true, false, cond, List, [], ◌∷◌, ◌++◌, refl, ap, sym, ◌∙◌, subst, arith, length, map, max, append-nil, eqb-true, eq-eqb, ◌==◌, nat_lt, list_any, filter, range_with_len, AllByRecursion, true≢false, false_from_ne_true, map-append, filter-append, length-map-range_with_len, sum_by_push, length-filter, count_by-le-length, PlanModel, task_at, release, job_at, jobs_of, is_finished, greatest, uses, blocked, IsRunStart, IsPlan, greatest_push, jobs_of_are, any_map, any_in, any_from, kept_by, range_more}
+use Rattle.std.proofs.Common.{◌≡◌, ◌<◌, ◌≤◌, ◌+◌, ◌∷◌, ◌++◌, ◌∙◌, ◌==◌}
+use Rattle.msrp_plan.proofs.Common.{ℕ, zero, suc, Bool, true, false, cond, List, [], refl, ap, sym, subst, arith, length, map, max, append-nil, eqb-true, eq-eqb, nat_lt, list_any, filter, range_with_len, AllByRecursion, true≢false, false_from_ne_true, map-append, filter-append, length-map-range_with_len, sum_by_push, length-filter, count_by-le-length, PlanModel, task_at, release, job_at, jobs_of, is_finished, greatest, uses, blocked, IsRunStart, IsPlan, greatest_push, jobs_of_are, any_map, any_in, any_from, kept_by, range_more}
 use Rattle.msrp_plan.specs.declared.ids.JobId.{JobId}
 use Rattle.msrp_plan.specs.declared.ids.TaskId.{TaskId}
 use Rattle.msrp_plan.specs.declared.rows.Row.{Row}

@@ -1,5 +1,6 @@
 -- The next releases of all tasks in one list, the earliest first.
-use Rattle.msrp_plan.proofs.Common.{◌≡◌, ◌≢◌, ℕ, zero, suc, ◌<◌, ◌≤◌, ◌+◌, ◌-◌, ◌==◌, nat_le, true, false, cond, List, [], ◌∷◌, ◌++◌, Some, refl, ap, sym, ◌∙◌, subst, arith, inl, inr, ◌⊎◌, length, map, take, drop, slice_get, slice_set, get_or, count_by, eqb-true, eq-eqb, All, insert, range_with_len, IsNonDecreasingBy, IsPermutation, true≢false, cases_Bool, eqb-false, false_from_ne_true, leb-false, leb-true, lt-leb, get_or-map, length-map, All-weaker, length-range_with_len, All-permutation, Contains-permutation, IsPermutation-map, IsPermutation-trans, sum_by-cons, same_Some, PlanModel}
+use Rattle.std.proofs.Common.{◌≡◌, ◌≢◌, ◌<◌, ◌≤◌, ◌+◌, ◌-◌, ◌==◌, ◌∷◌, ◌++◌, ◌∙◌, ◌⊎◌}
+use Rattle.msrp_plan.proofs.Common.{ℕ, zero, suc, nat_le, true, false, cond, List, [], Some, refl, ap, sym, subst, arith, inl, inr, length, map, take, drop, slice_get, slice_set, get_or, count_by, eqb-true, eq-eqb, All, insert, range_with_len, IsNonDecreasingBy, IsPermutation, true≢false, cases_Bool, eqb-false, false_from_ne_true, leb-false, leb-true, lt-leb, get_or-map, length-map, All-weaker, length-range_with_len, All-permutation, Contains-permutation, IsPermutation-map, IsPermutation-trans, sum_by-cons, same_Some, PlanModel}
 use Rattle.std.specs.List.{IsDistinct}
 use Rattle.msrp_plan.specs.declared.ids.JobId.{JobId}
 use Rattle.std.specs.List.{copy_within}

@@ -1,5 +1,6 @@
 -- A report while the rows come, and at their end.
-use Rattle.msrp_plan.proofs.Common.{◌≡◌, ℕ, ◌≤◌, ◌+◌, ◌*◌, Bool, true, false, cond, List, [], ◌∷◌, ◌++◌, Option, Some, None, refl, ap, sym, ◌∙◌, subst, length, map, nat_lt, take, drop, All, range_with_len, ltb-true, take-append-drop, All-from_recursion, PlanModel, IsRun, IsRunStart, broken, fault_in, fault_or, IsPlan, fault_push, start_is_good, unbroken_is_legal}
+use Rattle.std.proofs.Common.{◌≡◌, ◌≤◌, ◌+◌, ◌*◌, ◌∷◌, ◌++◌, ◌∙◌}
+use Rattle.msrp_plan.proofs.Common.{ℕ, Bool, true, false, cond, List, [], Option, Some, None, refl, ap, sym, subst, length, map, nat_lt, take, drop, All, range_with_len, ltb-true, take-append-drop, All-from_recursion, PlanModel, IsRun, IsRunStart, broken, fault_in, fault_or, IsPlan, fault_push, start_is_good, unbroken_is_legal}
 use Rattle.msrp_plan.specs.declared.faults.Rule.{Rule}
 use Rattle.msrp_plan.specs.declared.faults.Rule.TheVariants.{A7}
 use Rattle.msrp_plan.specs.declared.rows.Row.{Row}

@@ -1,5 +1,6 @@
 -- What is kept of the rows stays told by them, with one row more.
-use Rattle.msrp_plan.proofs.Common.{◌≡◌, ◌≢◌, ℕ, ◌<◌, ◌≤◌, ◌+◌, ◌*◌, ◌/◌, ◌==◌, Bool, true, false, cond, List, [], ◌∷◌, ◌++◌, Some, None, refl, ap, sym, ◌∙◌, subst, arith, inl, inr, ◌⊎◌, length, length-append, slice_get, slice_set, nat_lt, eqb-true, AllByRecursion, Contains, cases_Bool, cases_lt, eqb-false, false_from_ne_true, ltb-true, ltb-false, true_from_ne_false, length-set, div_below, slice_get_within, same_Some, PlanModel, core_of, units, done, jobs, jobs_of, jobs_on, job_at, is_job, is_row_of, same_job, is_started, is_finished, blocked, IsLegal, IsRunStart, IsPlan, job_on, row_of_job, same_is, legal_due, legal_turn, all_push, all_weaker, kept_by, each_at, start_last}
+use Rattle.std.proofs.Common.{◌≡◌, ◌≢◌, ◌<◌, ◌≤◌, ◌+◌, ◌*◌, ◌/◌, ◌==◌, ◌∷◌, ◌++◌, ◌∙◌, ◌⊎◌}
+use Rattle.msrp_plan.proofs.Common.{ℕ, Bool, true, false, cond, List, [], Some, None, refl, ap, sym, subst, arith, inl, inr, length, length-append, slice_get, slice_set, nat_lt, eqb-true, AllByRecursion, Contains, cases_Bool, cases_lt, eqb-false, false_from_ne_true, ltb-true, ltb-false, true_from_ne_false, length-set, div_below, slice_get_within, same_Some, PlanModel, core_of, units, done, jobs, jobs_of, jobs_on, job_at, is_job, is_row_of, same_job, is_started, is_finished, blocked, IsLegal, IsRunStart, IsPlan, job_on, row_of_job, same_is, legal_due, legal_turn, all_push, all_weaker, kept_by, each_at, start_last}
 use Rattle.msrp_plan.specs.declared.ids.JobId.{JobId}
 use Rattle.msrp_plan.specs.declared.rows.Row.{Row}
 use Rattle.std.proofs.lemmas.Nat.{le-div}

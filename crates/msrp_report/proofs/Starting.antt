@@ -1,5 +1,6 @@
 -- Before the first row.
-use Rattle.msrp_plan.proofs.Common.{◌≡◌, ℕ, false, List, [], Some, refl, ap, sym, ◌∙◌, subst, arith, inl, inr, length, map, nat_lt, slice_get, All, range_with_len, IsNonDecreasingBy, IsPermutation, true≢false, cases_lt, le-ltb, All-weaker, All-permutation, IsPermutation-map, div_below, PlanModel, task_at, jobs_of, job_at, IsPlan}
+use Rattle.std.proofs.Common.{◌≡◌, ◌∙◌}
+use Rattle.msrp_plan.proofs.Common.{ℕ, false, List, [], Some, refl, ap, sym, subst, arith, inl, inr, length, map, nat_lt, slice_get, All, range_with_len, IsNonDecreasingBy, IsPermutation, true≢false, cases_lt, le-ltb, All-weaker, All-permutation, IsPermutation-map, div_below, PlanModel, task_at, jobs_of, job_at, IsPlan}
 use Rattle.msrp_plan.specs.declared.ids.JobId.{JobId}
 use Rattle.msrp_report.specs.Inside.Counts.{uncounted, count_of}
 use Rattle.msrp_report.specs.Inside.Tallies.{AreActive, AreReleases, AreTallies, HasTallied, IsJobTally, IsNextRelease, IsTaskTally, release_or_end}

@@ -1,5 +1,6 @@
 -- What is kept of the rows stays told by them, release by release and row by row.
-use Rattle.msrp_plan.proofs.Common.{◌≡◌, ◌≢◌, ℕ, ◌<◌, ◌≤◌, ◌+◌, ◌==◌, Bool, true, false, cond, List, Option, Some, None, IsSome, refl, ap, sym, ◌∙◌, subst, arith, inl, inr, ◌⊎◌, length, slice_get, slice_set, get_or, nat_lt, unwrap_or, eqb-true, AllByRecursion, IsNonDecreasingBy, IsPermutation, true≢false, cases_Bool, cases_lt, eqb-false, le-ltb, lt-ltb, length-set, slice_get_within, slice_get_read, same_Some, PlanModel, task_at, release, jobs_of, job_at, first_later, IsPlan}
+use Rattle.std.proofs.Common.{◌≡◌, ◌≢◌, ◌<◌, ◌≤◌, ◌+◌, ◌==◌, ◌∙◌, ◌⊎◌}
+use Rattle.msrp_plan.proofs.Common.{ℕ, Bool, true, false, cond, List, Option, Some, None, IsSome, refl, ap, sym, subst, arith, inl, inr, length, slice_get, slice_set, get_or, nat_lt, unwrap_or, eqb-true, AllByRecursion, IsNonDecreasingBy, IsPermutation, true≢false, cases_Bool, cases_lt, eqb-false, le-ltb, lt-ltb, length-set, slice_get_within, slice_get_read, same_Some, PlanModel, task_at, release, jobs_of, job_at, first_later, IsPlan}
 use Rattle.msrp_plan.specs.declared.ids.JobId.{JobId}
 use Rattle.msrp_plan.specs.declared.rows.Row.{Row}
 use Rattle.msrp_plan.specs.Plan.{release_tick}

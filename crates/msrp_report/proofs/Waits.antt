@@ -1,5 +1,6 @@
 -- No wait of a run has more spins than the bound of its task.
-use Rattle.msrp_plan.proofs.Common.{◌≡◌, ℕ, ◌≤◌, ◌+◌, Bool, true, false, ◌&&◌, ◌||◌, cond, List, [], ◌∷◌, ◌++◌, Some, refl, ap, sym, ◌∙◌, subst, arith, count_by, append_assoc, slice_get, eq-eqb, length, list_any, Contains, and_parts, and_from, sum_by-cons, PlanModel, task_of, core_of, units, is_queue, is_lock_of, is_row_of, is_queued, done, uses, is_global, resources, is_global_unit, res_of_unit, allows, is_on, spin_bound, EachAfter, IsLegal, IsRunStart, IsPlan, any_in, DoesUnit, legal_turn, greatest_above, each_before, each_at, units_lock, is_job_is}
+use Rattle.std.proofs.Common.{◌≡◌, ◌≤◌, ◌+◌, ◌&&◌, ◌||◌, ◌∷◌, ◌++◌, ◌∙◌}
+use Rattle.msrp_plan.proofs.Common.{ℕ, Bool, true, false, cond, List, [], Some, refl, ap, sym, subst, arith, count_by, append_assoc, slice_get, eq-eqb, length, list_any, Contains, and_parts, and_from, sum_by-cons, PlanModel, task_of, core_of, units, is_queue, is_lock_of, is_row_of, is_queued, done, uses, is_global, resources, is_global_unit, res_of_unit, allows, is_on, spin_bound, EachAfter, IsLegal, IsRunStart, IsPlan, any_in, DoesUnit, legal_turn, greatest_above, each_before, each_at, units_lock, is_job_is}
 use Rattle.msrp_plan.specs.declared.ids.JobId.{JobId}
 use Rattle.msrp_plan.specs.declared.ids.ResId.{ResId}
 use Rattle.msrp_plan.specs.declared.units.Op.{Op}

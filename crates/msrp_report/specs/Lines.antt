@@ -1,9 +1,9 @@
 -- What a report says of each task: counts over the rows of a trace, and beside them the bounds that the plan gives. (The
 -- survey of Davis and Burns 2011 has the words: response time, spin delay, blocking.)
-use Rattle.msrp_plan.specs.Common.{ℕ, List, [], ◌∷◌, Bool, ◌&&◌, nat_lt, nat_le, fold, map, max, count_by, length, ◌+◌, ◌-◌, if◌then◌else◌, sum_by, range_with_len, PlanModel, TaskModel, task_at, key, release, is_queue, jobs_of, is_row_of, is_finished, uses, is_global, greatest, resources, is_grant, is_spin_of, spin_bound, blocked_bound, blocked}
+use Rattle.msrp_plan.specs.Common.{ℕ, List, [], Bool, nat_lt, nat_le, fold, map, max, count_by, length, sum_by, range_with_len, PlanModel, TaskModel, task_at, key, release, is_queue, jobs_of, is_row_of, is_finished, uses, is_global, greatest, resources, is_grant, is_spin_of, spin_bound, blocked_bound, blocked}
 use Rattle.msrp_plan.specs.declared.ids.JobId.{JobId}
 use Rattle.msrp_plan.specs.declared.rows.Row.{Row}
-use Rattle.std.specs.Prelude.{filter}
+use Rattle.std.specs.Prelude.{◌∷◌, ◌&&◌, ◌+◌, ◌-◌, if◌then◌else◌, filter}
 use Rattle.msrp_report.specs.declared.lines.Line.{Line}
 
 -- ---- response

@@ -1,5 +1,6 @@
 -- A report as text, in its version 2.
-use Rattle.msrp_plan.specs.Common.{ℕ, List, [], ◌∷◌, ◌++◌, codes, decimal, length, slice_index_or, flat_map, range_with_len, PlanModel, task_at}
+use Rattle.std.specs.Prelude.{◌∷◌, ◌++◌}
+use Rattle.msrp_plan.specs.Common.{ℕ, List, [], codes, decimal, length, slice_index_or, flat_map, range_with_len, PlanModel, task_at}
 use Rattle.msrp_text.specs.PlanText.{record_text}
 use Rattle.msrp_report.specs.declared.lines.Line.{Line}
 

@@ -1,5 +1,6 @@
 //! The bounds of one task, as the plan gives them.
-ghost use Rattle.msrp_plan.specs.Common.{◌≡◌, ◌<◌, ◌&&◌, ◌==◌, cond, nat_lt, length, list_any, task_at, uses, is_global, out, spin_bound, blocked_bound, IsPlan};
+ghost use Rattle.std.specs.Prelude.{◌≡◌, ◌<◌, ◌&&◌, ◌==◌};
+ghost use Rattle.msrp_plan.specs.Common.{cond, nat_lt, length, list_any, task_at, uses, is_global, out, spin_bound, blocked_bound, IsPlan};
 ghost use Rattle.msrp_report.specs.Lines.{task_spin_bound};
 
 use msrp_levels::Levels;

@@ -1,6 +1,7 @@
 //! What the tasks meet in a legal run, counted row by row.
 
-ghost use Rattle.msrp_plan.specs.Common.{◌≡◌, ◌≤◌, ◌++◌, ◌∷◌, [], List, IfOk, None, length, All, fault_in};
+ghost use Rattle.std.specs.Prelude.{◌≡◌, ◌≤◌, ◌++◌, ◌∷◌};
+ghost use Rattle.msrp_plan.specs.Common.{[], List, IfOk, None, length, All, fault_in};
 ghost use Rattle.msrp_plan.specs.declared.rows.Row.{Row as TraceRow};
 ghost use Rattle.msrp_report.specs.Lines.{lines_of};
 

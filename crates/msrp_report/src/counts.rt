@@ -1,5 +1,6 @@
 //! What the rows tell of one job, row by row.
-ghost use Rattle.msrp_plan.specs.Common.{◌≡◌, ◌<◌, ◌≤◌, ◌+◌, ◌^◌, unwrap_or};
+ghost use Rattle.std.specs.Prelude.{◌≡◌, ◌<◌, ◌≤◌, ◌+◌, ◌^◌};
+ghost use Rattle.msrp_plan.specs.Common.{unwrap_or};
 ghost use Rattle.msrp_report.specs.Inside.Counts.{CanCount, counted_as, spun, HasRoom};
 
 use msrp_plan::Kind;

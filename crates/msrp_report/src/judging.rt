@@ -1,5 +1,6 @@
 //! The report of a trace.
-ghost use Rattle.msrp_plan.specs.Common.{◌≡◌, ◌≤◌, [], Some, Err, IfOk, OnOk, All, IsRun, verdict};
+ghost use Rattle.std.specs.Prelude.{◌≡◌, ◌≤◌};
+ghost use Rattle.msrp_plan.specs.Common.{[], Some, Err, IfOk, OnOk, All, IsRun, verdict};
 ghost use Rattle.msrp_plan.specs.declared.faults.Fault.{Fault as TraceFault};
 ghost use Rattle.msrp_report.specs.Lines.{lines_of};
 ghost use Rattle.msrp_report.specs.Reports.{HasCounted};

@@ -1,5 +1,6 @@
 //! The numbers of one job, from what the rows of a run tell of it.
-ghost use Rattle.msrp_plan.specs.Common.{◌≡◌, ◌≤◌, ◌+◌, ◌-◌, List, cond, nat_le, nat_lt, Contains, jobs, most_rows, IsPlan};
+ghost use Rattle.std.specs.Prelude.{◌≡◌, ◌≤◌, ◌+◌, ◌-◌};
+ghost use Rattle.msrp_plan.specs.Common.{List, cond, nat_le, nat_lt, Contains, jobs, most_rows, IsPlan};
 ghost use Rattle.msrp_plan.specs.Limits.{most_ticks};
 ghost use Rattle.msrp_plan.specs.declared.rows.Row.{Row as TraceRow};
 ghost use Rattle.msrp_report.specs.Inside.Numbers.{numbers_of};

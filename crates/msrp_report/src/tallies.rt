@@ -1,6 +1,7 @@
 //! What the rows so far tell of each job, without the rows.
 
-ghost use Rattle.msrp_plan.specs.Common.{◌≡◌, ℕ, List, Contains, PlanModel, jobs, blocked, IsPlan};
+ghost use Rattle.std.specs.Prelude.{◌≡◌};
+ghost use Rattle.msrp_plan.specs.Common.{ℕ, List, Contains, PlanModel, jobs, blocked, IsPlan};
 ghost use Rattle.msrp_plan.specs.declared.rows.Row.{Row as TraceRow};
 ghost use Rattle.msrp_report.specs.Inside.Counts.{count_of};
 ghost use Rattle.msrp_report.specs.Inside.Tallies.{AreTallies, IsTallyOf, ToldOf};

@@ -1,5 +1,6 @@
 //! The line of one task.
-ghost use Rattle.msrp_plan.specs.Common.{◌≡◌, ◌<◌, List, length, IsPlan};
+ghost use Rattle.std.specs.Prelude.{◌≡◌, ◌<◌};
+ghost use Rattle.msrp_plan.specs.Common.{List, length, IsPlan};
 ghost use Rattle.msrp_plan.specs.declared.rows.Row.{Row as TraceRow};
 ghost use Rattle.msrp_report.specs.Lines.{line_of};
 ghost use Rattle.msrp_report.specs.Inside.Tallies.{HasTallied, ToldAll};

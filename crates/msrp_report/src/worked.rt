@@ -1,6 +1,7 @@
 //! Worked reports, computed from the definitions alone: of each plan a legal run, and the text of its report. Each
 //! function does nothing; its contract is the example. The plans and rows stand in `specs/Examples`.
-ghost use Rattle.msrp_plan.specs.Common.{◌≡◌, codes, task_at, IsRun};
+ghost use Rattle.std.specs.Prelude.{◌≡◌};
+ghost use Rattle.msrp_plan.specs.Common.{codes, task_at, IsRun};
 ghost use Rattle.msrp_plan.specs.Examples.TwoResources as two_resources;
 ghost use Rattle.msrp_report.specs.Lines.{lines_of, task_spin_bound};
 ghost use Rattle.msrp_report.specs.ReportText.{report_text};

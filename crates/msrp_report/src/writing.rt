@@ -1,5 +1,6 @@
 //! A report as text.
-ghost use Rattle.msrp_plan.specs.Common.{◌≡◌, ◌<◌, length, true, false, OnOk, OnErr, Wrote, sink_failed, slice_index_or};
+ghost use Rattle.std.specs.Prelude.{◌≡◌, ◌<◌};
+ghost use Rattle.msrp_plan.specs.Common.{length, true, false, OnOk, OnErr, Wrote, sink_failed, slice_index_or};
 ghost use Rattle.msrp_text.specs.PlanText.{record_text};
 ghost use Rattle.msrp_report.specs.ReportText.{line_record, no_line, report_text};
 

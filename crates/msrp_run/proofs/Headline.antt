@@ -1,5 +1,6 @@
 -- From the workers' logs and the settled board to the trace.
-use Rattle.msrp_plan.proofs.Common.{◌≡◌, ◌⊎◌, ℕ, ◌<◌, ◌≤◌, List, [], length, Bool, true, false, nat_lt, Some, refl, sym, ap, ◌∙◌, subst, arith, inl, inr, slice_get, is_some, ltb-false, ltb-true, get_or_from_slice_get, slice_get_within, PlanModel}
+use Rattle.std.proofs.Common.{◌≡◌, ◌⊎◌, ◌<◌, ◌≤◌, ◌∙◌}
+use Rattle.msrp_plan.proofs.Common.{ℕ, List, [], length, Bool, true, false, nat_lt, Some, refl, sym, ap, subst, arith, inl, inr, slice_get, is_some, ltb-false, ltb-true, get_or_from_slice_get, slice_get_within, PlanModel}
 use Rattle.msrp_plan.specs.declared.rows.Row.{Row}
 use Rattle.std.specs.Prelude.{filter}
 use Rattle.msrp_board.specs.declared.answers.SeatPhase.TheVariants.{Done, Stopped}

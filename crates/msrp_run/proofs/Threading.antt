@@ -1,5 +1,6 @@
 -- The loops over all cores: one more core, by its parts, seat, thread, log and book.
-use Rattle.msrp_plan.proofs.Common.{◌≡◌, ℕ, ◌+◌, ◌<◌, ◌≤◌, List, [], ◌∷◌, ◌++◌, None, length, get_or, arith, refl, subst, sym, ap, ◌∙◌, inl, inr, length-append, is_some, true, get_or_append_left, get_or-append_seam, cases_eq, PlanModel}
+use Rattle.std.proofs.Common.{◌≡◌, ◌+◌, ◌<◌, ◌≤◌, ◌∷◌, ◌++◌, ◌∙◌}
+use Rattle.msrp_plan.proofs.Common.{ℕ, List, [], None, length, get_or, arith, refl, subst, sym, ap, inl, inr, length-append, is_some, true, get_or_append_left, get_or-append_seam, cases_eq, PlanModel}
 use Rattle.std.specs.declared.thread.PromisedHandle.{PromisedHandle}
 use Rattle.msrp_board.specs.declared.books.Book.{Book}
 use Rattle.msrp_board.specs.declared.books.Conductor.{Conductor}

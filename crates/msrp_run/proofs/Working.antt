@@ -1,5 +1,6 @@
 -- A worker's steps: its core is let in, has its turn and arrives, or is told to stop.
-use Rattle.msrp_plan.proofs.Common.{◌≡◌, ◌+◌, ◌≤◌, ◌&&◌, ℕ, suc, List, [], ◌∷◌, ◌++◌, Bool, true, false, nat_lt, refl, sym, ap, ◌∙◌, subst, arith, inl, inr, length-append, length, list_all-append, ltb-false, PlanModel, carries_its_ahead, carries_ahead, CoreRun}
+use Rattle.std.proofs.Common.{◌≡◌, ◌+◌, ◌≤◌, ◌&&◌, ◌∷◌, ◌++◌, ◌∙◌}
+use Rattle.msrp_plan.proofs.Common.{ℕ, suc, List, [], Bool, true, false, nat_lt, refl, sym, ap, subst, arith, inl, inr, length-append, length, list_all-append, ltb-false, PlanModel, carries_its_ahead, carries_ahead, CoreRun}
 use Rattle.msrp_plan.specs.declared.rows.Row.{Row}
 use Rattle.msrp_board.specs.declared.answers.SeatPhase.{SeatPhase}
 use Rattle.msrp_board.specs.declared.answers.SeatPhase.TheVariants.{Waiting, Admitted, Done}

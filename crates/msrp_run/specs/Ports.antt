@@ -1,5 +1,6 @@
 -- A core's seat as the port of its machine: what the port tells of the seat, and the one step that is made through it.
-use Rattle.msrp_plan.specs.Common.{◌≡◌, ℕ, ◌⊎◌, List, [], Option, Some, None, map, ResCall, claim_after, IsDueCall, PlanModel}
+use Rattle.std.specs.Prelude.{◌≡◌, ◌⊎◌}
+use Rattle.msrp_plan.specs.Common.{ℕ, List, [], Option, Some, None, map, ResCall, claim_after, IsDueCall, PlanModel}
 use Rattle.msrp_plan.specs.declared.rows.Row.{Row}
 use Rattle.msrp_plan.specs.declared.ids.CoreId.{CoreId}
 use Rattle.msrp_plan.specs.declared.ids.ResId.{ResId}

@@ -1,7 +1,7 @@
 -- The workers of all cores: what they are given, what their threads promise, and what they leave.
-use Rattle.msrp_plan.specs.Common.{◌≡◌, ℕ, ◌<◌, ◌≤◌, List, [], Bool, true, false, Some, IsSome, IsTrue, length, slice_get, slice_index, slice_index_or, carries_ahead, PlanModel}
+use Rattle.msrp_plan.specs.Common.{ℕ, List, [], Bool, true, false, Some, IsSome, IsTrue, length, slice_get, slice_index, slice_index_or, carries_ahead, PlanModel}
 use Rattle.msrp_plan.specs.declared.rows.Row.{Row}
-use Rattle.std.specs.Prelude.{filter}
+use Rattle.std.specs.Prelude.{◌≡◌, ◌<◌, ◌≤◌, filter}
 use Rattle.std.specs.declared.thread.PromisedHandle.{PromisedHandle}
 use Rattle.msrp_board.specs.declared.answers.SeatPhase.TheVariants.{Done}
 use Rattle.msrp_board.specs.declared.books.Book.{Book}

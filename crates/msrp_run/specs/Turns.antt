@@ -1,5 +1,6 @@
 -- One core's turn on a board: what its machine, its log and its seat must be before it, and what they are after it.
-use Rattle.msrp_plan.specs.Common.{◌≡◌, ◌++◌, ◌∷◌, [], List, Option, None, true, false, carries_its_ahead, IsCoreTurn}
+use Rattle.std.specs.Prelude.{◌≡◌, ◌++◌, ◌∷◌}
+use Rattle.msrp_plan.specs.Common.{[], List, Option, None, true, false, carries_its_ahead, IsCoreTurn}
 use Rattle.msrp_plan.specs.declared.rows.Row.{Row}
 use Rattle.msrp_board.specs.declared.answers.SeatPhase.TheVariants.{Admitted}
 use Rattle.msrp_board.specs.declared.books.Book.{Book}

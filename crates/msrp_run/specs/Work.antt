@@ -1,5 +1,6 @@
 -- What a worker is given, and what it gives back.
-use Rattle.msrp_plan.specs.Common.{◌≡◌, ℕ, ◌⊎◌, [], length, true, carries_ahead, PlanModel, CoreRun}
+use Rattle.std.specs.Prelude.{◌≡◌, ◌⊎◌}
+use Rattle.msrp_plan.specs.Common.{ℕ, [], length, true, carries_ahead, PlanModel, CoreRun}
 use Rattle.msrp_board.specs.declared.answers.SeatPhase.TheVariants.{Waiting, Done, Stopped}
 use Rattle.msrp_board.specs.declared.books.Book.{Book}
 use Rattle.msrp_board.specs.Books.{phase_in, lock_of}

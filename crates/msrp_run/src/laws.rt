@@ -1,5 +1,6 @@
 //! What the order of a run's trace comes to. The function does nothing; its contract is the law.
-ghost use Rattle.msrp_plan.specs.Common.{◌≡◌, ℕ, List, PlanModel};
+ghost use Rattle.std.specs.Prelude.{◌≡◌};
+ghost use Rattle.msrp_plan.specs.Common.{ℕ, List, PlanModel};
 ghost use Rattle.msrp_board.specs.declared.books.Entry.{Entry};
 ghost use Rattle.msrp_merge.specs.Merging.{AreLogs, turns_of};
 ghost use Rattle.msrp_merge.specs.Sorting.{merged};

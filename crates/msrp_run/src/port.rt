@@ -1,5 +1,6 @@
 //! A core's seat as the port of its machine, for one turn.
-ghost use Rattle.msrp_plan.specs.Common.{◌≡◌, None, Some};
+ghost use Rattle.std.specs.Prelude.{◌≡◌};
+ghost use Rattle.msrp_plan.specs.Common.{None, Some};
 ghost use Rattle.msrp_run.specs.Ports.{IsSeatPort, SeatPortModel, port_of};
 ghost use Rattle.msrp_board.specs.Seats.{BoardModel};
 

@@ -1,5 +1,6 @@
 //! A thread for each core: they are started, let in, and joined.
-ghost use Rattle.msrp_plan.specs.Common.{◌≡◌, ◌+◌, ◌<◌, ◌≤◌, ℕ, [], IfOk, IfErr, IsTrue, length, true, false, vec_capacity, vec_len, carries_ahead, IsRun, IsPlan};
+ghost use Rattle.std.specs.Prelude.{◌≡◌, ◌+◌, ◌<◌, ◌≤◌};
+ghost use Rattle.msrp_plan.specs.Common.{ℕ, [], IfOk, IfErr, IsTrue, length, true, false, vec_capacity, vec_len, carries_ahead, IsRun, IsPlan};
 ghost use Rattle.msrp_plan.specs.Laws.{KeepsLaws};
 ghost use Rattle.msrp_board.specs.declared.books.Conductor.TheVariants.{Opened, Aborted};
 ghost use Rattle.msrp_board.specs.Boards.{IsTied, entries_at};

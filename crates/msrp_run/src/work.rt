@@ -1,5 +1,5 @@
 //! What the thread of a core does.
-ghost use Rattle.msrp_plan.specs.Common.{◌≡◌, ◌+◌};
+ghost use Rattle.std.specs.Prelude.{◌≡◌, ◌+◌};
 ghost use Rattle.msrp_run.specs.declared.work.Progress.TheVariants.{Waits, Turned, Ended};
 ghost use Rattle.msrp_run.specs.Work.{HasWorked, IsAtWork, IsNew};
 

@@ -1,5 +1,6 @@
 -- A row that is foreseen: with the answer that the queues give it is the next legal one of a core that is due.
-use Rattle.msrp_plan.proofs.Common.{◌≡◌, ℕ, zero, suc, ◌+◌, ◌/◌, ◌<◌, ◌≤◌, ◌==◌, ◌&&◌, ◌||◌, Bool, true, false, not, List, [], ◌∷◌, Option, Some, None, is_some, refl, ap, sym, ◌∙◌, subst, arith, length, map, slice_get, nat_lt, get_or, inl, inr, eq-eqb, cases_Bool, and_from, and_parts, lt-ltb, length-map, same_Some, slice_get_read, PlanModel, core_of, is_queue, carries_its_ahead, same_job, is_queued, is_global, choice, same_res, res_of_unit, is_global_unit, allows, is_idle, does_unit, does_next, fifo, is_first, replies, counts, IsCoreTurn, had_turn, is_on_core, same_choice, is_next_action, is_fifo_reply, replies_on, log_of, kind_of_call, ahead_of_call, FifoLock, IsAmong, IsPlan, not_equal, same_is, AreOwn, IsTurn, DoesUnit, turn_of, turn_core, legal_turn, legal_due, idle_res, own_from_legal, quiet_reply, turns_when_due}
+use Rattle.std.proofs.Common.{◌≡◌, ◌+◌, ◌/◌, ◌<◌, ◌≤◌, ◌==◌, ◌&&◌, ◌||◌, ◌∷◌, ◌∙◌}
+use Rattle.msrp_plan.proofs.Common.{ℕ, zero, suc, Bool, true, false, not, List, [], Option, Some, None, is_some, refl, ap, sym, subst, arith, length, map, slice_get, nat_lt, get_or, inl, inr, eq-eqb, cases_Bool, and_from, and_parts, lt-ltb, length-map, same_Some, slice_get_read, PlanModel, core_of, is_queue, carries_its_ahead, same_job, is_queued, is_global, choice, same_res, res_of_unit, is_global_unit, allows, is_idle, does_unit, does_next, fifo, is_first, replies, counts, IsCoreTurn, had_turn, is_on_core, same_choice, is_next_action, is_fifo_reply, replies_on, log_of, kind_of_call, ahead_of_call, FifoLock, IsAmong, IsPlan, not_equal, same_is, AreOwn, IsTurn, DoesUnit, turn_of, turn_core, legal_turn, legal_due, idle_res, own_from_legal, quiet_reply, turns_when_due}
 use Rattle.msrp_plan.specs.declared.ids.CoreId.{CoreId}
 use Rattle.msrp_plan.specs.declared.ids.JobId.{JobId}
 use Rattle.msrp_plan.specs.declared.ids.ResId.{ResId}

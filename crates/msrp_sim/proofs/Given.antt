@@ -1,5 +1,6 @@
 -- Turns that are given as a list, one by one.
-use Rattle.msrp_plan.proofs.Common.{◌≡◌, ◌≢◌, ℕ, suc, ◌+◌, ◌/◌, ◌<◌, ◌≤◌, ◌==◌, Bool, true, false, cond, List, [], ◌∷◌, ◌++◌, refl, ap, sym, ◌∙◌, subst, arith, length, add-one, get_or, set, take, drop, inl, inr, take-suc, drop-cons, true≢false, cases_Bool, eqb-false, get_or-set_same, get_or-set_other, length-set, length-take-le, take-append-drop, sum_by_push, PlanModel, EachAfter, IsDueInOrder, IsOrder, each_push, each_at}
+use Rattle.std.proofs.Common.{◌≡◌, ◌≢◌, ◌+◌, ◌/◌, ◌<◌, ◌≤◌, ◌==◌, ◌∷◌, ◌++◌, ◌∙◌}
+use Rattle.msrp_plan.proofs.Common.{ℕ, suc, Bool, true, false, cond, List, [], refl, ap, sym, subst, arith, length, add-one, get_or, set, take, drop, inl, inr, take-suc, drop-cons, true≢false, cases_Bool, eqb-false, get_or-set_same, get_or-set_other, length-set, length-take-le, take-append-drop, sum_by_push, PlanModel, EachAfter, IsDueInOrder, IsOrder, each_push, each_at}
 use Rattle.std.specs.List.{count_by}
 use Rattle.std.proofs.lemmas.Bool.{eqb-true}
 use Rattle.msrp_sim.specs.TurnCounts.{AreCounted}

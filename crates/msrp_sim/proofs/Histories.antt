@@ -1,5 +1,6 @@
 -- Calls that are answered first-in-first-out, and one call more.
-use Rattle.msrp_plan.proofs.Common.{◌≡◌, ◌≢◌, ℕ, zero, suc, ◌+◌, ◌==◌, Bool, true, false, cond, List, [], ◌∷◌, ◌++◌, Some, refl, ap, sym, ◌∙◌, subst, arith, length, length-append, map, slice_get, eq-eqb, inl, inr, append-nil, filter, cases_Bool, eqb-false, map-append, filter-append, fold_push, FifoLock, free_lock, IsAmong, IsFirst, Answers, without_first, lock_after, Legal, lock_from, ResCall, claim_with, claim_after, IsDueCall}
+use Rattle.std.proofs.Common.{◌≡◌, ◌≢◌, ◌+◌, ◌==◌, ◌∷◌, ◌++◌, ◌∙◌}
+use Rattle.msrp_plan.proofs.Common.{ℕ, zero, suc, Bool, true, false, cond, List, [], Some, refl, ap, sym, subst, arith, length, length-append, map, slice_get, eq-eqb, inl, inr, append-nil, filter, cases_Bool, eqb-false, map-append, filter-append, fold_push, FifoLock, free_lock, IsAmong, IsFirst, Answers, without_first, lock_after, Legal, lock_from, ResCall, claim_with, claim_after, IsDueCall}
 use Rattle.msrp_plan.specs.declared.ids.ResId.{ResId}
 use Rattle.msrp_plan.specs.declared.units.Call.{Call}
 use Rattle.msrp_plan.specs.declared.units.Call.TheVariants.{Ask, Poll, Leave}

@@ -1,5 +1,6 @@
 -- The cores after a turn are cores of the plan again.
-use Rattle.msrp_plan.proofs.Common.{◌≡◌, ◌≢◌, ℕ, suc, ◌+◌, ◌*◌, ◌<◌, ◌≤◌, ◌==◌, Bool, true, false, [], ◌∷◌, ◌++◌, List, Option, Some, None, ap, sym, ◌∙◌, subst, arith, refl, length, eqb-true, slice_get, inl, inr, sum_by, true≢false, mul-le-mul_left, mul-le-mul_right, cases_Bool, cases_lt, eqb-false, sum_by-cons, sum_by-set, none-some, same_Some, slice_get_within, get_or_from_slice_get, PlanModel, is_global, IsPlan, undeclared_local}
+use Rattle.std.proofs.Common.{◌≡◌, ◌≢◌, ◌+◌, ◌*◌, ◌<◌, ◌≤◌, ◌==◌, ◌∷◌, ◌++◌, ◌∙◌}
+use Rattle.msrp_plan.proofs.Common.{ℕ, suc, Bool, true, false, [], List, Option, Some, None, ap, sym, subst, arith, refl, length, eqb-true, slice_get, inl, inr, sum_by, true≢false, mul-le-mul_left, mul-le-mul_right, cases_Bool, cases_lt, eqb-false, sum_by-cons, sum_by-set, none-some, same_Some, slice_get_within, get_or_from_slice_get, PlanModel, is_global, IsPlan, undeclared_local}
 use Rattle.msrp_plan.specs.declared.ids.ResId.{ResId}
 use Rattle.msrp_plan.specs.declared.rows.Row.{Row}
 use Rattle.std.proofs.Math.ListN.{length-set}

@@ -1,5 +1,6 @@
 -- The next turn of a simulation: its core is due, and what the cores promise of it goes on the run.
-use Rattle.msrp_plan.proofs.Common.{◌≡◌, ℕ, ◌+◌, ◌*◌, ◌/◌, ◌<◌, true, ◌&&◌, Some, IfSome, Option, None, List, [], ◌∷◌, ◌++◌, ap, sym, ◌∙◌, subst, arith, length, get_or, take, slice_get, refl, take-length, and_from, length-take-le, map-append, length-map, list_all-append, PlanModel, carries_its_ahead, carries_ahead, log_of, IsRunStart, IsDueInOrder, IsOrder}
+use Rattle.std.proofs.Common.{◌≡◌, ◌+◌, ◌*◌, ◌/◌, ◌<◌, ◌&&◌, ◌∷◌, ◌++◌, ◌∙◌}
+use Rattle.msrp_plan.proofs.Common.{ℕ, true, Some, IfSome, Option, None, List, [], ap, sym, subst, arith, length, get_or, take, slice_get, refl, take-length, and_from, length-take-le, map-append, length-map, list_all-append, PlanModel, carries_its_ahead, carries_ahead, log_of, IsRunStart, IsDueInOrder, IsOrder}
 use Rattle.msrp_plan.specs.declared.rows.Row.{Row}
 use Rattle.msrp_plan.specs.Logs.{core_order}
 use Rattle.msrp_plan.proofs.Runs.CoreRuns.{due_by_log}

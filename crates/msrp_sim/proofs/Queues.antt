@@ -1,5 +1,6 @@
 -- Cores in a queue, by their places.
-use Rattle.msrp_plan.proofs.Common.{◌≡◌, ◌≢◌, ℕ, zero, suc, ◌+◌, List, [], ◌∷◌, ◌++◌, Some, refl, ap, sym, ◌∙◌, arith, length, slice_get, ◌⊎◌, inl, inr, none-some, same_Some, IsAmong, IsFirst, without_first}
+use Rattle.std.proofs.Common.{◌≡◌, ◌≢◌, ◌+◌, ◌∷◌, ◌++◌, ◌∙◌, ◌⊎◌}
+use Rattle.msrp_plan.proofs.Common.{ℕ, zero, suc, List, [], Some, refl, ap, sym, arith, length, slice_get, inl, inr, none-some, same_Some, IsAmong, IsFirst, without_first}
 
 -- who stands at a place is among them
 pub among_at : (q : List ℕ) (i c : ℕ) → slice_get q i ≡ Some c → IsAmong q c

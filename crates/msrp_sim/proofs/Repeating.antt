@@ -1,5 +1,6 @@
 -- A core's turn that is known from its last one, and what a turn leaves known.
-use Rattle.msrp_plan.proofs.Common.{◌≡◌, ℕ, ◌<◌, Bool, true, false, cond, Option, Some, None, IfSome, IfNone, set, slice_get, slice_set, refl, ap, sym, ◌∙◌, subst, option_or, set-get_or, get_or_from_slice_get, none-some, in_tick}
+use Rattle.std.proofs.Common.{◌≡◌, ◌<◌, ◌∙◌}
+use Rattle.msrp_plan.proofs.Common.{ℕ, Bool, true, false, cond, Option, Some, None, IfSome, IfNone, set, slice_get, slice_set, refl, ap, sym, subst, option_or, set-get_or, get_or_from_slice_get, none-some, in_tick}
 use Rattle.msrp_plan.specs.declared.rows.Row.{Row}
 use Rattle.std.specs.Option.{is_some}
 use Rattle.msrp_core.specs.Machine.{MachineModel, next_known}

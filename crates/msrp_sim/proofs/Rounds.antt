@@ -1,5 +1,6 @@
 -- Orders that are made tick by tick give each core one turn in each tick.
-use Rattle.msrp_plan.proofs.Common.{◌≡◌, ◌≢◌, ℕ, zero, suc, ◌+◌, ◌-◌, ◌*◌, ◌/◌, ◌%◌, ◌<◌, ◌≤◌, ◌==◌, false, cond, nat_lt, List, [], ◌∷◌, ◌++◌, map, refl, ap, sym, ◌∙◌, subst, arith, length, length-append, append_assoc, append-nil, add-one, mul_comm, get_or, inl, inr, flat_map, range_with_len, cases_lt, cases_Bool, lt-ltb, eqb-false, nat_tests, get_or_append_left, sum_by_push, length-range_with_len, length-map-range_with_len, map-range_with_len_more, get_or-map-range_with_len, mod-eq_of_lt, div-add-mod, mul-le-mul_right, div-mul-add, mod-mul-add, PlanModel, EachAfter, IsDueInOrder, IsOrder, each_push, flat_more}
+use Rattle.std.proofs.Common.{◌≡◌, ◌≢◌, ◌+◌, ◌-◌, ◌*◌, ◌/◌, ◌%◌, ◌<◌, ◌≤◌, ◌==◌, ◌∷◌, ◌++◌, ◌∙◌}
+use Rattle.msrp_plan.proofs.Common.{ℕ, zero, suc, false, cond, nat_lt, List, [], map, refl, ap, sym, subst, arith, length, length-append, append_assoc, append-nil, add-one, mul_comm, get_or, inl, inr, flat_map, range_with_len, cases_lt, cases_Bool, lt-ltb, eqb-false, nat_tests, get_or_append_left, sum_by_push, length-range_with_len, length-map-range_with_len, map-range_with_len_more, get_or-map-range_with_len, mod-eq_of_lt, div-add-mod, mul-le-mul_right, div-mul-add, mod-mul-add, PlanModel, EachAfter, IsDueInOrder, IsOrder, each_push, flat_more}
 use Rattle.std.specs.List.{count_by}
 use Rattle.std.proofs.lemmas.Bool.{eqb-true}
 use Rattle.std.proofs.lemmas.List.{get_or-append-add, map-id}

@@ -1,11 +1,11 @@
 -- Queues of tickets over each call, and the locks that they stand for.
-use Rattle.msrp_plan.proofs.Common.{◌≡◌, ◌≢◌, ℕ, zero, suc, ◌+◌, ◌-◌, ◌<◌, ◌≤◌, ◌==◌, Bool, true, false, cond, List, [], ◌∷◌, ◌++◌, refl, ap, sym, ◌∙◌, subst, arith, length, length-append, map, set, replicate, get_or, eq-eqb, inl, inr, All, sum_by, AllByRecursion, filter, cases_Bool, cases_lt, eqb-false, get_or_past, sum_by-set, none-some, recursion_from_All, FifoLock, free_lock, IsAmong, Answers, lock_after, lock_from, IsDueCall}
+use Rattle.msrp_plan.proofs.Common.{ℕ, zero, suc, Bool, true, false, cond, List, [], refl, ap, sym, subst, arith, length, length-append, map, set, replicate, get_or, eq-eqb, inl, inr, All, sum_by, AllByRecursion, filter, cases_Bool, cases_lt, eqb-false, get_or_past, sum_by-set, none-some, recursion_from_All, FifoLock, free_lock, IsAmong, Answers, lock_after, lock_from, IsDueCall}
 use Rattle.msrp_plan.specs.declared.ids.ResId.{ResId}
 use Rattle.msrp_plan.specs.declared.units.Call.{Call}
 use Rattle.msrp_plan.specs.declared.units.Call.TheVariants.{Ask, Poll, Leave}
 use Rattle.msrp_plan.specs.declared.units.Phase.{Phase}
 use Rattle.msrp_plan.specs.declared.units.Phase.TheVariants.{Free, Queued, Holding}
-use Rattle.std.proofs.Common.{get_or-set_same, get_or-set_other}
+use Rattle.std.proofs.Common.{◌≡◌, ◌≢◌, ◌+◌, ◌-◌, ◌<◌, ◌≤◌, ◌==◌, ◌∷◌, ◌++◌, ◌∙◌, get_or-set_same, get_or-set_other}
 use Rattle.std.proofs.lemmas.Bool.{eqb-true}
 use Rattle.msrp_core.specs.Ports.{asked, core_call, calls_on}
 use Rattle.msrp_core.specs.declared.port.PortCall.{PortCall}

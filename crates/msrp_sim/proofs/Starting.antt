@@ -1,5 +1,6 @@
 -- The cores before the first tick.
-use Rattle.msrp_plan.proofs.Common.{◌≡◌, ℕ, ◌+◌, Bool, true, false, cond, List, [], ◌∷◌, ◌++◌, Option, Some, None, slice_get, refl, ap, ◌∙◌, arith, length-append, PlanModel, free_lock, is_global, IsPlan, places_push}
+use Rattle.std.proofs.Common.{◌≡◌, ◌+◌, ◌∷◌, ◌++◌, ◌∙◌}
+use Rattle.msrp_plan.proofs.Common.{ℕ, Bool, true, false, cond, List, [], Option, Some, None, slice_get, refl, ap, arith, length-append, PlanModel, free_lock, is_global, IsPlan, places_push}
 use Rattle.msrp_plan.specs.declared.units.Phase.TheVariants.{Free}
 use Rattle.msrp_core.specs.Machine.{MachineModel}
 use Rattle.msrp_sim.specs.Cores.{CoresModel, AreCores, AreNew, IsNew, StandFor, again_of, known_row, locks_at, phases_at}

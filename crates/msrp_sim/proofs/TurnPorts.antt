@@ -1,5 +1,6 @@
 -- A port for one turn takes one call.
-use Rattle.msrp_plan.proofs.Common.{◌≡◌, ℕ, ◌+◌, ◌<◌, ◌==◌, ◌&&◌, Bool, true, false, cond, List, [], ◌∷◌, ◌++◌, Option, Some, None, IfSome, is_none, refl, ap, sym, ◌∙◌, subst, arith, append-nil, eqb-true, true≢false, same_Some, IsSomeAnd, IsDueCall, IsCoreTurn, not_equal}
+use Rattle.std.proofs.Common.{◌≡◌, ◌+◌, ◌<◌, ◌==◌, ◌&&◌, ◌∷◌, ◌++◌, ◌∙◌}
+use Rattle.msrp_plan.proofs.Common.{ℕ, Bool, true, false, cond, List, [], Option, Some, None, IfSome, is_none, refl, ap, sym, subst, arith, append-nil, eqb-true, true≢false, same_Some, IsSomeAnd, IsDueCall, IsCoreTurn, not_equal}
 use Rattle.msrp_plan.specs.declared.ids.CoreId.{CoreId}
 use Rattle.msrp_plan.specs.declared.ids.ResId.{ResId}
 use Rattle.msrp_plan.specs.declared.rows.Kind.TheVariants.{Spin}

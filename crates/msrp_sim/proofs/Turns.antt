@@ -1,5 +1,6 @@
 -- A turn of a core makes the next legal row, and leaves the cores as that row does.
-use Rattle.msrp_plan.proofs.Common.{◌≡◌, ℕ, zero, suc, ◌≤◌, ◌/◌, ◌&&◌, ◌||◌, ◌⊎◌, Bool, true, false, cond, not, List, [], Option, Some, None, IfSome, is_some, refl, ap, sym, ◌∙◌, subst, arith, length, nat_lt, inl, inr, true≢false, and-false, cases_Bool, lt-ltb, same_Some, PlanModel, has_shape, is_queue, may_carry, carries_its_ahead, is_queued, is_global, allows, res_of_unit, is_global_unit, fifo, replies, counts, IsCoreTurn, had_turn, is_in_turn, is_fifo_reply, replies_on, log_of, free_lock, Answers, lock_at, IsDueCall, kind_of_call, ahead_of_call, AreOwn, quiet_reply, turns_when_due, IsTurn, turn_of, idle_res, own_from_legal}
+use Rattle.std.proofs.Common.{◌≡◌, ◌≤◌, ◌/◌, ◌&&◌, ◌||◌, ◌⊎◌, ◌∙◌}
+use Rattle.msrp_plan.proofs.Common.{ℕ, zero, suc, Bool, true, false, cond, not, List, [], Option, Some, None, IfSome, is_some, refl, ap, sym, subst, arith, length, nat_lt, inl, inr, true≢false, and-false, cases_Bool, lt-ltb, same_Some, PlanModel, has_shape, is_queue, may_carry, carries_its_ahead, is_queued, is_global, allows, res_of_unit, is_global_unit, fifo, replies, counts, IsCoreTurn, had_turn, is_in_turn, is_fifo_reply, replies_on, log_of, free_lock, Answers, lock_at, IsDueCall, kind_of_call, ahead_of_call, AreOwn, quiet_reply, turns_when_due, IsTurn, turn_of, idle_res, own_from_legal}
 use Rattle.msrp_plan.specs.declared.ids.JobId.{JobId}
 use Rattle.msrp_plan.specs.declared.ids.ResId.{ResId}
 use Rattle.msrp_plan.specs.declared.rows.Kind.{Kind}

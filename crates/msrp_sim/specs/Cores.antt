@@ -1,12 +1,12 @@
 -- The cores of a plan over first-in-first-out queues, and the rows that they stand after.
-use Rattle.msrp_plan.specs.Common.{ℕ, List, [], ◌∷◌, ◌++◌, true, Option, Some, None, IfSome, length, slice_get, slice_set, ◌≡◌, ◌≢◌, ◌<◌, ◌≤◌, ◌*◌, if◌then◌else◌, ForSome, PlanModel, is_global, carries_its_ahead, most_rows, IsCoreTurn, IsRunStart, IsLegal, log_of, IsDueCore, FifoLock, free_lock, in_tick, IsPlan, kind_of_call, ahead_of_call}
+use Rattle.msrp_plan.specs.Common.{ℕ, List, [], true, Option, Some, None, IfSome, length, slice_get, slice_set, ForSome, PlanModel, is_global, carries_its_ahead, most_rows, IsCoreTurn, IsRunStart, IsLegal, log_of, IsDueCore, FifoLock, free_lock, in_tick, IsPlan, kind_of_call, ahead_of_call}
 use Rattle.msrp_plan.specs.declared.ids.ResId.{ResId}
 use Rattle.msrp_plan.specs.declared.rows.Kind.{Kind}
 use Rattle.msrp_plan.specs.declared.rows.Kind.TheVariants.{Take, Queue, Grant, Spin}
 use Rattle.msrp_plan.specs.declared.rows.Row.{Row}
 use Rattle.msrp_plan.specs.declared.units.Call.TheVariants.{Ask, Poll}
 use Rattle.msrp_plan.specs.declared.units.Phase.{Phase}
-use Rattle.std.specs.Prelude.{sum_by}
+use Rattle.std.specs.Prelude.{◌∷◌, ◌++◌, ◌≡◌, ◌≢◌, ◌<◌, ◌≤◌, ◌*◌, if◌then◌else◌, sum_by}
 use Rattle.msrp_plan.specs.Aheads.{HasReply}
 use Rattle.msrp_plan.specs.LockStates.{lock_at}
 use Rattle.msrp_plan.specs.Phases.{phase_after}

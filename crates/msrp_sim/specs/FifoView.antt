@@ -1,6 +1,6 @@
 -- What a clause sees of a port that serves requests in their order, and what its fields keep.
-use Rattle.msrp_plan.specs.Common.{◌<◌, ◌≤◌, ◌+◌, length, vec_capacity, All, most_resources, most_rows}
-use Rattle.std.specs.Prelude.{sum_by}
+use Rattle.msrp_plan.specs.Common.{length, vec_capacity, All, most_resources, most_rows}
+use Rattle.std.specs.Prelude.{◌<◌, ◌≤◌, ◌+◌, sum_by}
 use Rattle.msrp_core.specs.Ports.{claim_in}
 use Rattle.msrp_sim.specs.Served.{AreFifo, FifoModel, lock_after_calls}
 use Rattle.msrp_sim.specs.Serving.{AreDrawn, IsServing}

@@ -1,5 +1,6 @@
 -- The orders in which the cores of a plan have their turns.
-use Rattle.msrp_plan.specs.Common.{ℕ, List, map, ◌+◌, ◌-◌, ◌%◌, flat_map, range_with_len, PlanModel, ascending}
+use Rattle.std.specs.Prelude.{◌+◌, ◌-◌, ◌%◌}
+use Rattle.msrp_plan.specs.Common.{ℕ, List, map, flat_map, range_with_len, PlanModel, ascending}
 use Rattle.msrp_sim.specs.declared.orders.Order.{Order}
 use Rattle.msrp_sim.specs.declared.orders.Order.TheVariants.{Asc, Desc, Rot, Given}
 

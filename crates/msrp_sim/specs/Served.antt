@@ -1,5 +1,6 @@
 -- Calls that are served first-in-first-out, and the tickets by which that is done.
-use Rattle.msrp_plan.specs.Common.{ℕ, List, [], true, false, nat_lt, Some, ◌==◌, ◌≡◌, ◌+◌, length, slice_get, slice_index_or, if◌then◌else◌, PlanModel, FifoLock, free_lock, Legal}
+use Rattle.std.specs.Prelude.{◌==◌, ◌≡◌, ◌+◌, if◌then◌else◌}
+use Rattle.msrp_plan.specs.Common.{ℕ, List, [], true, false, nat_lt, Some, length, slice_get, slice_index_or, PlanModel, FifoLock, free_lock, Legal}
 use Rattle.msrp_plan.specs.declared.units.Phase.{Phase}
 use Rattle.msrp_plan.specs.declared.units.Phase.TheVariants.{Free, Queued, Holding}
 use Rattle.msrp_plan.specs.FifoLock.{IsAmong, IsFirst}

@@ -1,5 +1,6 @@
 -- How the tickets of the queues stand for the locks of the resources, and what one call more does to them.
-use Rattle.msrp_plan.specs.Common.{ℕ, List, Bool, false, ◌==◌, ◌≡◌, ◌≤◌, ◌+◌, ◌-◌, slice_index_or, ⊤, claim_with, IsDueCall, FifoLock, Answers, lock_after}
+use Rattle.std.specs.Prelude.{◌==◌, ◌≡◌, ◌≤◌, ◌+◌, ◌-◌}
+use Rattle.msrp_plan.specs.Common.{ℕ, List, Bool, false, slice_index_or, ⊤, claim_with, IsDueCall, FifoLock, Answers, lock_after}
 use Rattle.msrp_plan.specs.declared.units.Call.{Call}
 use Rattle.msrp_plan.specs.declared.units.Call.TheVariants.{Ask, Poll, Leave}
 use Rattle.msrp_plan.specs.declared.units.Phase.{Phase}

@@ -1,5 +1,6 @@
 -- What a clause sees of a simulation, and what its fields keep.
-use Rattle.msrp_plan.specs.Common.{List, ◌<◌, ◌≤◌, ◌+◌, ◌*◌, IsOrder, IsPlan}
+use Rattle.std.specs.Prelude.{◌<◌, ◌≤◌, ◌+◌, ◌*◌}
+use Rattle.msrp_plan.specs.Common.{List, IsOrder, IsPlan}
 use Rattle.msrp_plan.specs.declared.rows.Row.{Row}
 use Rattle.msrp_sim.specs.Orders.{cores_of}
 use Rattle.msrp_sim.specs.Simulated.{SimModel, HasMade}

@@ -1,5 +1,6 @@
 -- A run on one thread, turn by turn.
-use Rattle.msrp_plan.specs.Common.{ℕ, List, true, ◌≡◌, take, PlanModel, carries_ahead, core_order, IsRun}
+use Rattle.std.specs.Prelude.{◌≡◌}
+use Rattle.msrp_plan.specs.Common.{ℕ, List, true, take, PlanModel, carries_ahead, core_order, IsRun}
 use Rattle.msrp_plan.specs.declared.rows.Row.{Row}
 use Rattle.msrp_sim.specs.Cores.{CoresModel, StandFor}
 

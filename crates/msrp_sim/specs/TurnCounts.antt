@@ -1,5 +1,6 @@
 -- How many turns each core has had.
-use Rattle.msrp_plan.specs.Common.{ℕ, List, [], ◌==◌, ◌≡◌, ◌<◌, count_by, length, slice_index_or, take, PlanModel, EachAfter, most_cores}
+use Rattle.std.specs.Prelude.{◌==◌, ◌≡◌, ◌<◌}
+use Rattle.msrp_plan.specs.Common.{ℕ, List, [], count_by, length, slice_index_or, take, PlanModel, EachAfter, most_cores}
 use Rattle.msrp_plan.specs.Scheduling.{IsDueInOrder}
 
 -- the first n of these turns were each of a core that was due, and so many were of each core

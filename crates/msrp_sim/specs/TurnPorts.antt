@@ -1,5 +1,6 @@
 -- A port for one turn of one core, and what the turn makes.
-use Rattle.msrp_plan.specs.Common.{ℕ, List, [], ◌∷◌, ◌++◌, Bool, true, false, ◌==◌, ◌&&◌, is_none, Option, Some, None, ◌≡◌, ◌+◌, if◌then◌else◌, ForSome, is_global, IsCoreTurn, claim_with, IsDueCall, kind_of_call, ahead_of_call}
+use Rattle.std.specs.Prelude.{◌∷◌, ◌++◌, ◌==◌, ◌&&◌, ◌≡◌, ◌+◌, if◌then◌else◌}
+use Rattle.msrp_plan.specs.Common.{ℕ, List, [], Bool, true, false, is_none, Option, Some, None, ForSome, is_global, IsCoreTurn, claim_with, IsDueCall, kind_of_call, ahead_of_call}
 use Rattle.msrp_plan.specs.declared.rows.Kind.{Kind}
 use Rattle.msrp_plan.specs.declared.rows.Kind.TheVariants.{Spin}
 use Rattle.msrp_plan.specs.declared.ids.CoreId.{CoreId}

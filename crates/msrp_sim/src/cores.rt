@@ -1,5 +1,6 @@
 //! All cores of a plan, and the queues of its global resources.
-ghost use Rattle.msrp_plan.specs.Common.{◌≡◌, ◌<◌, ◌++◌, ◌∷◌, [], true, ℕ, List, IfOk, IfNone, IfSome, None, Some, length, slice_get, ForSome, IsSomeAnd, most_cores, most_resources, most_rows, log_of, kind_of_call, ahead_of_call, has_shape, IsPlan};
+ghost use Rattle.std.specs.Prelude.{◌≡◌, ◌<◌, ◌++◌, ◌∷◌};
+ghost use Rattle.msrp_plan.specs.Common.{[], true, ℕ, List, IfOk, IfNone, IfSome, None, Some, length, slice_get, ForSome, IsSomeAnd, most_cores, most_resources, most_rows, log_of, kind_of_call, ahead_of_call, has_shape, IsPlan};
 ghost use Rattle.std.specs.Option.{is_some, option_map};
 ghost use Rattle.msrp_plan.specs.Aheads.{HasReply};
 ghost use Rattle.msrp_plan.specs.declared.rows.Row.{Row as TraceRow};

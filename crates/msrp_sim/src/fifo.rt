@@ -1,6 +1,6 @@
 //! A port that serves requests in their order.
-ghost use Rattle.msrp_plan.specs.Common.{ℕ, ◌*◌, ◌≤◌, cond, nat_lt, ◌≡◌, ◌<◌, ◌+◌, ◌++◌, ◌∷◌, [], length, slice_index_or, slice_set, vec_len, vec_capacity, ◌-◌};
-ghost use Rattle.std.specs.Prelude.{sum_by};
+ghost use Rattle.msrp_plan.specs.Common.{ℕ, cond, nat_lt, [], length, slice_index_or, slice_set, vec_len, vec_capacity};
+ghost use Rattle.std.specs.Prelude.{◌*◌, ◌≤◌, ◌≡◌, ◌<◌, ◌+◌, ◌++◌, ◌∷◌, ◌-◌, sum_by};
 
 use crate::tickets::{Queues, request};
 use msrp_core::{Port, PortCall, Reply};

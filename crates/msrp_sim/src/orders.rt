@@ -1,5 +1,6 @@
 //! The orders in which the cores of a plan have their turns.
-ghost use Rattle.msrp_plan.specs.Common.{ℕ, ◌≡◌, ◌↔◌, ◌<◌, ◌+◌, ◌*◌, ◌^◌, true, slice_index_or, length, PlanModel, IsOrder, ascending};
+ghost use Rattle.std.specs.Prelude.{◌≡◌, ◌↔◌, ◌<◌, ◌+◌, ◌*◌, ◌^◌};
+ghost use Rattle.msrp_plan.specs.Common.{ℕ, true, slice_index_or, length, PlanModel, IsOrder, ascending};
 ghost use Rattle.msrp_sim.specs.Orders.{cores_of, falling, rotating};
 
 use msrp_plan::limits::MOST_CORES;

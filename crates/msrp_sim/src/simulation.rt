@@ -1,5 +1,6 @@
 //! A run on one thread, turn by turn.
-ghost use Rattle.msrp_plan.specs.Common.{◌≡◌, ◌<◌, ◌≤◌, ◌+◌, ◌*◌, ◌++◌, ◌∷◌, [], ℕ, List, Some, None, Err, IfOk, IfNone, IfSome, ◌↔◌, IsOrder};
+ghost use Rattle.std.specs.Prelude.{◌≡◌, ◌<◌, ◌≤◌, ◌+◌, ◌*◌, ◌++◌, ◌∷◌, ◌↔◌};
+ghost use Rattle.msrp_plan.specs.Common.{[], ℕ, List, Some, None, Err, IfOk, IfNone, IfSome, IsOrder};
 ghost use Rattle.std.specs.Vec.{vec_capacity};
 ghost use Rattle.msrp_plan.specs.declared.rows.Row.{Row as TraceRow};
 ghost use Rattle.msrp_sim.specs.Cores.{Leaves, known_row};

@@ -1,5 +1,6 @@
 //! Cores that are served in the order of their requests, by tickets.
-ghost use Rattle.msrp_plan.specs.Common.{ℕ, ◌≡◌, ◌<◌, slice_index_or, free_lock, most_cores, most_resources, most_rows};
+ghost use Rattle.std.specs.Prelude.{◌≡◌, ◌<◌};
+ghost use Rattle.msrp_plan.specs.Common.{ℕ, slice_index_or, free_lock, most_cores, most_resources, most_rows};
 ghost use Rattle.msrp_core.specs.Ports.{asked, HasAhead};
 ghost use Rattle.msrp_sim.specs.Serving.{AreDrawn, IsServing, IsTold, Notes, queue_of};
 

@@ -1,5 +1,6 @@
 //! One turn of a machine over the queues, which it only reads: its call is handed on.
-ghost use Rattle.msrp_plan.specs.Common.{◌≡◌, ◌<◌, IfNone, IfSome, length};
+ghost use Rattle.std.specs.Prelude.{◌≡◌, ◌<◌};
+ghost use Rattle.msrp_plan.specs.Common.{IfNone, IfSome, length};
 ghost use Rattle.std.specs.Option.{is_some};
 ghost use Rattle.msrp_core.specs.Machine.{next_known};
 ghost use Rattle.msrp_core.specs.Ports.{claim_in};

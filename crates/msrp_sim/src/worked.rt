@@ -1,5 +1,6 @@
 //! Worked orders, computed from the definitions alone. Each function does nothing; its contract is the example.
-ghost use Rattle.msrp_plan.specs.Common.{◌≡◌, ◌∷◌, []};
+ghost use Rattle.std.specs.Prelude.{◌≡◌, ◌∷◌};
+ghost use Rattle.msrp_plan.specs.Common.{[]};
 ghost use Rattle.msrp_sim.specs.Orders.{cores_of};
 ghost use Rattle.msrp_sim.specs.Examples.{three_cores};
 ghost use Rattle.msrp_sim.specs.declared.orders.Order.TheVariants.{Desc, Rot};

@@ -1,5 +1,6 @@
 -- One started job more or less, and one resource more or less that the newest holds.
-use Rattle.msrp_plan.proofs.Common.{◌≡◌, ℕ, ◌<◌, ◌≤◌, ◌+◌, ◌-◌, true, false, ◌||◌, max, List, [], ◌∷◌, ◌++◌, map, reverse, length, set, slice_index_or, Option, Some, None, refl, ap, sym, ◌∙◌, subst, arith, length-append, append-nil, inl, inr, flat_map, AllByRecursion, Contains, list_any, option_to_list, true≢false, cases_Bool, cases_eq, cases_lt, false_from_ne_true, get_or-append_seam, length-map, get_or-set_same, get_or-set_other, PlanModel, jobs, jobs_on, same_job, is_before, IsPlan, same_is, same_self, same_symm, before_order, irrefl, any_in}
+use Rattle.std.proofs.Common.{◌≡◌, ◌<◌, ◌≤◌, ◌+◌, ◌-◌, ◌||◌, ◌∷◌, ◌++◌, ◌∙◌}
+use Rattle.msrp_plan.proofs.Common.{ℕ, true, false, max, List, [], map, reverse, length, set, slice_index_or, Option, Some, None, refl, ap, sym, subst, arith, length-append, append-nil, inl, inr, flat_map, AllByRecursion, Contains, list_any, option_to_list, true≢false, cases_Bool, cases_eq, cases_lt, false_from_ne_true, get_or-append_seam, length-map, get_or-set_same, get_or-set_other, PlanModel, jobs, jobs_on, same_job, is_before, IsPlan, same_is, same_self, same_symm, before_order, irrefl, any_in}
 use Rattle.std.specs.List.{IsDistinct}
 use Rattle.msrp_plan.specs.declared.ids.JobId.{JobId}
 use Rattle.std.specs.Cmp.{IsEquivalence}

@@ -1,5 +1,6 @@
 -- The ceiling that rises from one held resource to the next is the core's current ceiling.
-use Rattle.msrp_plan.proofs.Common.{◌≡◌, ℕ, ◌<◌, ◌≤◌, Bool, true, false, cond, not, max, nat_eq, ◌&&◌, ◌||◌, List, [], ◌∷◌, map, reverse, length, refl, ap, sym, ◌∙◌, subst, arith, inl, inr, list_any, filter, flat_map, or-true, and_parts, cases_Bool, list_any-append, PlanModel, is_global, local_ceiling, top, greatest, resources, raised_with, ceiling_with, any_in, any_map, greatest_above, in_resources}
+use Rattle.std.proofs.Common.{◌≡◌, ◌<◌, ◌≤◌, ◌&&◌, ◌||◌, ◌∷◌, ◌∙◌}
+use Rattle.msrp_plan.proofs.Common.{ℕ, Bool, true, false, cond, not, max, nat_eq, List, [], map, reverse, length, refl, ap, sym, subst, arith, inl, inr, list_any, filter, flat_map, or-true, and_parts, cases_Bool, list_any-append, PlanModel, is_global, local_ceiling, top, greatest, resources, raised_with, ceiling_with, any_in, any_map, greatest_above, in_resources}
 use Rattle.std.specs.List.{fold}
 use Rattle.std.proofs.lemmas.Bool.{eqb-true, eq-eqb}
 use Rattle.msrp_stack.specs.Stack.{is_held}

@@ -1,5 +1,6 @@
 -- The ceiling as it rises from one held resource to the next.
-use Rattle.msrp_plan.specs.Common.{ℕ, List, [], ◌∷◌, max, reverse, length, ◌≡◌, ◌<◌, flat_map, PlanModel}
+use Rattle.std.specs.Prelude.{◌∷◌, ◌≡◌, ◌<◌}
+use Rattle.msrp_plan.specs.Common.{ℕ, List, [], max, reverse, length, flat_map, PlanModel}
 use Rattle.msrp_levels.specs.Users.{ceiling_at}
 use Rattle.msrp_stack.specs.declared.stack.Held.{Held}
 use Rattle.msrp_stack.specs.declared.stack.Started.{Started}

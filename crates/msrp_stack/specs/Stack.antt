@@ -1,5 +1,6 @@
 -- The started jobs of a core, newest first, and what each of them holds.
-use Rattle.msrp_plan.specs.Common.{ℕ, List, [], ◌∷◌, Bool, false, nat_eq, Option, Some, None, length, ◌≡◌, ◌<◌, ⊤, true, list_any, Contains, PlanModel, jobs_on, same_job, is_before}
+use Rattle.std.specs.Prelude.{◌∷◌, ◌≡◌, ◌<◌}
+use Rattle.msrp_plan.specs.Common.{ℕ, List, [], Bool, false, nat_eq, Option, Some, None, length, ⊤, true, list_any, Contains, PlanModel, jobs_on, same_job, is_before}
 use Rattle.msrp_plan.specs.declared.ids.JobId.{JobId}
 use Rattle.msrp_plan.specs.Choice.{first_unfinished}
 use Rattle.msrp_plan.specs.Ceiling.{ceiling_with}

@@ -1,5 +1,6 @@
 -- What a clause sees of a stack, and what its fields keep.
-use Rattle.msrp_plan.specs.Common.{ℕ, List, [], ◌∷◌, map, reverse, length, slice_index_or, vec_capacity, ◌≡◌, ◌<◌, ◌≤◌, ⊤, AllByRecursion, Contains, PlanModel, jobs_on, IsPlan, most_resources}
+use Rattle.std.specs.Prelude.{◌∷◌, ◌≡◌, ◌<◌, ◌≤◌}
+use Rattle.msrp_plan.specs.Common.{ℕ, List, [], map, reverse, length, slice_index_or, vec_capacity, ⊤, AllByRecursion, Contains, PlanModel, jobs_on, IsPlan, most_resources}
 use Rattle.msrp_stack.specs.Stack.{StartedJob, StackModel, ComesFirst}
 use Rattle.msrp_levels.specs.Users.{ceiling_at}
 use Rattle.msrp_stack.specs.Layers.{Layers, layers_of}

@@ -1,5 +1,6 @@
 //! A stack of started jobs, and its calls.
-ghost use Rattle.msrp_plan.specs.Common.{◌≡◌, ◌<◌, ◌∷◌, [], length, slice_index_or, true, false, ℕ, IfOk, ◌≤◌, vec_capacity, jobs_on, is_global, IsPlan, most_resources};
+ghost use Rattle.std.specs.Prelude.{◌≡◌, ◌<◌, ◌∷◌, ◌≤◌};
+ghost use Rattle.msrp_plan.specs.Common.{[], length, slice_index_or, true, false, ℕ, IfOk, vec_capacity, jobs_on, is_global, IsPlan, most_resources};
 ghost use Rattle.msrp_plan.specs.Limits.{most_held};
 ghost use Rattle.msrp_levels.specs.Users.{ceiling_at};
 ghost use Rattle.msrp_stack.specs.Stack.{top, newest, current_ceiling, CanStart, HasRoom, IsInnermost, SomeHeld, IsDone, with_held, without_held, without_newest};

@@ -1,5 +1,6 @@
 -- A system that isn't refused is within its limits.
-use Rattle.msrp_plan.proofs.Common.{◌≡◌, ℕ, zero, suc, ◌<◌, ◌≤◌, Bool, true, false, cond, List, [], ◌∷◌, Option, Some, None, map, length, list_any, get_or, refl, arith, nat_le, nat_lt, nat_tests, TaskModel, no_task, length-map}
+use Rattle.std.proofs.Common.{◌≡◌, ◌<◌, ◌≤◌, ◌∷◌}
+use Rattle.msrp_plan.proofs.Common.{ℕ, zero, suc, Bool, true, false, cond, List, [], Option, Some, None, map, length, list_any, get_or, refl, arith, nat_le, nat_lt, nat_tests, TaskModel, no_task, length-map}
 use Rattle.std.specs.Prelude.{string_bytes}
 use Rattle.std.specs.declared.alloc.Global.{Global}
 use Rattle.std.specs.declared.string.String.{String}

@@ -1,5 +1,6 @@
 -- What is gathered task by task, and resource by resource.
-use Rattle.msrp_plan.proofs.Common.{◌≡◌, ℕ, ◌+◌, Bool, true, false, cond, ◌||◌, ◌&&◌, List, [], ◌∷◌, ◌++◌, map, max, refl, ap, sym, ◌∙◌, filter, list_any, fold, greatest, filter-append, fold-append, not, ◌==◌, arith, PlanModel, uses, is_global, range_with_len, range_more}
+use Rattle.std.proofs.Common.{◌≡◌, ◌+◌, ◌||◌, ◌&&◌, ◌∷◌, ◌++◌, ◌∙◌, ◌==◌}
+use Rattle.msrp_plan.proofs.Common.{ℕ, Bool, true, false, cond, List, [], map, max, refl, ap, sym, filter, list_any, fold, greatest, filter-append, fold-append, not, arith, PlanModel, uses, is_global, range_with_len, range_more}
 use Rattle.msrp_plan.proofs.Lists.AnyAll.{any_push}
 use Rattle.msrp_system.specs.Inside.Views.{used_elsewhere}
 use Rattle.std.proofs.lemmas.List.{map-append}

@@ -1,7 +1,7 @@
 -- A system as a plan: its deadlines are in ns, the units of its tasks are locks and unlocks alone, and it has neither
 -- ticks nor release times, which no definition on logs looks at.
-use Rattle.msrp_plan.specs.Common.{ℕ, List, Bool, true, ◌||◌, nat_le, nat_lt, Option, Some, None, if◌then◌else◌, length, list_any, map, Result, Err, ◌≡◌, ◌⊎◌, PlanModel, TaskModel}
-use Rattle.std.specs.Prelude.{string_bytes, IsOk}
+use Rattle.msrp_plan.specs.Common.{ℕ, List, Bool, true, nat_le, nat_lt, Option, Some, None, length, list_any, map, Result, Err, PlanModel, TaskModel}
+use Rattle.std.specs.Prelude.{◌||◌, if◌then◌else◌, ◌≡◌, ◌⊎◌, string_bytes, IsOk}
 use Rattle.std.specs.declared.alloc.Global.{Global}
 use Rattle.std.specs.declared.string.String.{String}
 use Rattle.msrp_plan.specs.ReleaseTimes.{Every}

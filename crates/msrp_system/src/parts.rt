@@ -1,5 +1,6 @@
 //! What a system is made of.
-ghost use Rattle.msrp_plan.specs.Common.{◌≡◌, ◌<◌, ◌≤◌, ◌+◌, length, take, count_by, list_any, None, TaskModel, task_at, uses};
+ghost use Rattle.std.specs.Prelude.{◌≡◌, ◌<◌, ◌≤◌, ◌+◌};
+ghost use Rattle.msrp_plan.specs.Common.{length, take, count_by, list_any, None, TaskModel, task_at, uses};
 ghost use Rattle.msrp_plan.specs.Units.{is_lock_of, is_unlock_of, holds_after};
 ghost use Rattle.msrp_system.specs.Systems.{system_of, system_fault, task_view, most_tasks, most_resources, most_steps};
 ghost use Rattle.msrp_system.specs.Inside.Views.{IsSystem};

@@ -1,5 +1,6 @@
 //! Systems, and why one is refused.
-ghost use Rattle.msrp_plan.specs.Common.{◌≡◌, ◌<◌, ◌≤◌, ◌+◌, Err, IfOk, length, list_any, map, filter, not, ◌&&◌, take, task_at, greatest, level, is_global, local_ceiling, top};
+ghost use Rattle.std.specs.Prelude.{◌≡◌, ◌<◌, ◌≤◌, ◌+◌, ◌&&◌};
+ghost use Rattle.msrp_plan.specs.Common.{Err, IfOk, length, list_any, map, filter, not, take, task_at, greatest, level, is_global, local_ceiling, top};
 ghost use Rattle.msrp_plan.specs.Units.{holds_after};
 ghost use Rattle.msrp_plan.specs.Ceiling.{ceiling_with, resources};
 ghost use Rattle.msrp_system.specs.Systems.{most_cores, most_tasks, most_resources, most_steps, system_of, task_view, IsJudged, system_fault, is_undeclared, names_undeclared, is_long, is_beyond, is_past_limits};

@@ -1,5 +1,6 @@
 //! The tables of a system: levels of tasks, highest levels of cores, ceilings of resources, and which are global.
-ghost use Rattle.msrp_plan.specs.Common.{◌≡◌, ◌≤◌, ◌<◌, ◌+◌, ◌==◌, ◌&&◌, not, list_any, nat_lt, count_by, length, map, range_with_len, vec_len, IfOk, TaskModel, task_at, level_of, uses, top, local_ceiling, is_global};
+ghost use Rattle.std.specs.Prelude.{◌≡◌, ◌≤◌, ◌<◌, ◌+◌, ◌==◌, ◌&&◌};
+ghost use Rattle.msrp_plan.specs.Common.{not, list_any, nat_lt, count_by, length, map, range_with_len, vec_len, IfOk, TaskModel, task_at, level_of, uses, top, local_ceiling, is_global};
 ghost use Rattle.msrp_system.specs.Systems.{most_tasks};
 ghost use Rattle.msrp_system.specs.Inside.Views.{used_elsewhere};
 

@@ -1,5 +1,6 @@
 -- The tasks of a well-formed plan, told one after the other, are accepted, and so is the end.
-use Rattle.msrp_plan.proofs.Common.{◌≡◌, ℕ, ◌+◌, ◌-◌, ◌<◌, ◌≤◌, ◌==◌, ◌&&◌, true, false, cond, List, [], ◌∷◌, ◌++◌, map, take, length, Some, None, refl, ap, sym, ◌∙◌, subst, arith, append_assoc, append-nil, nat_le, nat_lt, length-append, slice_get, slice_index_or, AllByRecursion, flat_map, get_or-append_seam, nat_tests, get_or_append_left, map-append, sum_by-cons, slice_get-get_or, is_within, is_name, PlanModel, TaskModel, ReleaseTimes, Every, Listed, is_listed, listed_ticks, held_after, AreNames, IsLocking, even_after, held_times}
+use Rattle.std.proofs.Common.{◌≡◌, ◌+◌, ◌-◌, ◌<◌, ◌≤◌, ◌==◌, ◌&&◌, ◌∷◌, ◌++◌, ◌∙◌}
+use Rattle.msrp_plan.proofs.Common.{ℕ, true, false, cond, List, [], map, take, length, Some, None, refl, ap, sym, subst, arith, append_assoc, append-nil, nat_le, nat_lt, length-append, slice_get, slice_index_or, AllByRecursion, flat_map, get_or-append_seam, nat_tests, get_or_append_left, map-append, sum_by-cons, slice_get-get_or, is_within, is_name, PlanModel, TaskModel, ReleaseTimes, Every, Listed, is_listed, listed_ticks, held_after, AreNames, IsLocking, even_after, held_times}
 use Rattle.msrp_plan.specs.declared.rows.TextVersion.{TextVersion}
 use Rattle.msrp_plan.specs.declared.rows.TextVersion.TheVariants.{V2}
 use Rattle.msrp_plan.specs.declared.units.Op.{Op}

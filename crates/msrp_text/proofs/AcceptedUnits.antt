@@ -1,5 +1,6 @@
 -- The units of a task, told step by step, are accepted.
-use Rattle.msrp_plan.proofs.Common.{◌≡◌, ℕ, suc, ◌+◌, ◌-◌, ◌<◌, ◌≤◌, ◌==◌, Bool, true, false, cond, List, [], ◌∷◌, ◌++◌, map, set, take, drop, length, replicate, Option, Some, None, is_none, refl, ap, sym, ◌∙◌, subst, arith, append_assoc, append-nil, nat_le, nat_lt, nat_eq, length-append, slice_index_or, AllByRecursion, flat_map, list_any, drop-cons, get_or-append_seam, take-append_seam, nat_tests, length_push, length-replicate, length-take-le, take-append-drop, same_Some, none-some, name_position, PlanModel, TaskModel, no_task, held_after, held_with, AreNames, IsLocking, held_push}
+use Rattle.std.proofs.Common.{◌≡◌, ◌+◌, ◌-◌, ◌<◌, ◌≤◌, ◌==◌, ◌∷◌, ◌++◌, ◌∙◌}
+use Rattle.msrp_plan.proofs.Common.{ℕ, suc, Bool, true, false, cond, List, [], map, set, take, drop, length, replicate, Option, Some, None, is_none, refl, ap, sym, subst, arith, append_assoc, append-nil, nat_le, nat_lt, nat_eq, length-append, slice_index_or, AllByRecursion, flat_map, list_any, drop-cons, get_or-append_seam, take-append_seam, nat_tests, length_push, length-replicate, length-take-le, take-append-drop, same_Some, none-some, name_position, PlanModel, TaskModel, no_task, held_after, held_with, AreNames, IsLocking, held_push}
 use Rattle.msrp_plan.specs.declared.ids.ResId.{ResId}
 use Rattle.msrp_plan.specs.declared.rows.TextVersion.{TextVersion}
 use Rattle.msrp_plan.specs.declared.units.Op.{Op}

@@ -1,5 +1,6 @@
 -- Records that are accepted one after the other, and the plan that they tell.
-use Rattle.msrp_plan.proofs.Common.{◌≡◌, ℕ, ◌+◌, ◌<◌, ◌≤◌, ◌||◌, Bool, true, false, not, cond, List, [], ◌∷◌, ◌++◌, map, length, Some, None, Ok, refl, ap, sym, ◌∙◌, subst, arith, append_assoc, append-nil, nat_le, nat_lt, length-append, fold, AllByRecursion, list_any, list_all, position_or_len, is_ascii_lowercase, bytes_eq, get_or-append_seam, and_parts, lt-ltb, nat_tests, is_name, is_name_byte, name_position, PlanModel, AreNames}
+use Rattle.std.proofs.Common.{◌≡◌, ◌+◌, ◌<◌, ◌≤◌, ◌||◌, ◌∷◌, ◌++◌, ◌∙◌}
+use Rattle.msrp_plan.proofs.Common.{ℕ, Bool, true, false, not, cond, List, [], map, length, Some, None, Ok, refl, ap, sym, subst, arith, append_assoc, append-nil, nat_le, nat_lt, length-append, fold, AllByRecursion, list_any, list_all, position_or_len, is_ascii_lowercase, bytes_eq, get_or-append_seam, and_parts, lt-ltb, nat_tests, is_name, is_name_byte, name_position, PlanModel, AreNames}
 use Rattle.std.specs.List.{IsDistinct}
 use Rattle.msrp_plan.specs.declared.rows.TextVersion.{TextVersion}
 use Rattle.std.specs.List.{AllPass}

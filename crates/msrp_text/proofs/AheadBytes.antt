@@ -1,6 +1,6 @@
 -- The bytes that are left, with some of them read ahead.
-use Rattle.msrp_plan.proofs.Common.{subst, slice_index, Bool, true, false, if◌then◌else◌, ◌≡◌, ◌++◌, ◌∷◌, ◌∙◌, ◌≤◌, ◌<◌, ◌+◌, ◌-◌, [], ℕ, List, Option, Some, None, Result, length, drop, take, suc, refl, sym, ap, append_assoc, append-nil, arith, length-drop, set, drop-append-le, drop_more, get_or-take, drop-take, length-take-le, take-take, drop-drop, take-append-le, take_all, none-some, same_Some, Consumes, Keeps, prepend_known}
-use Rattle.std.proofs.Common.{take-append-drop}
+use Rattle.msrp_plan.proofs.Common.{subst, slice_index, Bool, true, false, [], ℕ, List, Option, Some, None, Result, length, drop, take, suc, refl, sym, ap, append_assoc, append-nil, arith, length-drop, set, drop-append-le, drop_more, get_or-take, drop-take, length-take-le, take-take, drop-drop, take-append-le, take_all, none-some, same_Some, Consumes, Keeps, prepend_known}
+use Rattle.std.proofs.Common.{if◌then◌else◌, ◌≡◌, ◌++◌, ◌∷◌, ◌∙◌, ◌≤◌, ◌<◌, ◌+◌, ◌-◌, take-append-drop}
 use Rattle.std.proofs.lemmas.List.{drop_at, drop-set}
 use Rattle.std.proofs.lemmas.List.Edits.{take-paste}
 use Rattle.std.specs.Io.KnownBytes.{ReadConsumes}

@@ -1,6 +1,6 @@
 -- Texts that are compared by the bytes at their ends.
-use Rattle.msrp_plan.proofs.Common.{◌≡◌, ◌≤◌, ◌+◌, ◌-◌, ◌++◌, ◌∙◌, ℕ, List, length, take, drop, refl, sym, ap, arith, take-take, take_at}
-use Rattle.std.proofs.Common.{take-append-drop}
+use Rattle.msrp_plan.proofs.Common.{ℕ, List, length, take, drop, refl, sym, ap, arith, take-take, take_at}
+use Rattle.std.proofs.Common.{◌≡◌, ◌≤◌, ◌+◌, ◌-◌, ◌++◌, ◌∙◌, take-append-drop}
 use Rattle.std.proofs.lemmas.List.{length-append}
 
 -- two lists of one length, which is twice that of a chunk at most, are the same where their first and their last chunks are

@@ -1,5 +1,6 @@
 -- The number that digits stand for, digit by digit.
-use Rattle.msrp_plan.proofs.Common.{◌≡◌, ◌+◌, ◌-◌, ◌*◌, ◌^◌, ◌<◌, ◌≤◌, ℕ, List, Bool, true, false, length, get_or, arith, refl, sym, fold, ◌&&◌, nat_tests, is_ascii_digit, list_all, is_within}
+use Rattle.std.proofs.Common.{◌≡◌, ◌+◌, ◌-◌, ◌*◌, ◌^◌, ◌<◌, ◌≤◌, ◌&&◌}
+use Rattle.msrp_plan.proofs.Common.{ℕ, List, Bool, true, false, length, get_or, arith, refl, sym, fold, nat_tests, is_ascii_digit, list_all, is_within}
 use Rattle.std.proofs.Math.Nat.{pow-le-pow_right}
 use Rattle.std.proofs.lemmas.List.Folds.{list_all_at}
 use Rattle.msrp_text.specs.Fields.{is_number}

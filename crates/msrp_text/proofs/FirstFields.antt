@@ -1,5 +1,6 @@
 -- The first fields of a text's next record, where no more of it is known.
-use Rattle.msrp_plan.proofs.Common.{◌≡◌, ◌≤◌, ◌==◌, ◌⊎◌, ◌++◌, ◌∷◌, ◌∙◌, [], ℕ, List, Bool, Option, Some, None, refl, sym, ap, subst, true, false, length, slice_index, append_assoc, append-nil, inl, inr, if◌then◌else◌, option_map, prepend_known, is_ascii_digit, list_any, arith, and_parts, not-true, or_parts, nat_tests, none-some, same_Some}
+use Rattle.std.proofs.Common.{◌≡◌, ◌≤◌, ◌==◌, ◌⊎◌, ◌++◌, ◌∷◌, ◌∙◌, if◌then◌else◌}
+use Rattle.msrp_plan.proofs.Common.{[], ℕ, List, Bool, Option, Some, None, refl, sym, ap, subst, true, false, length, slice_index, append_assoc, append-nil, inl, inr, option_map, prepend_known, is_ascii_digit, list_any, arith, and_parts, not-true, or_parts, nat_tests, none-some, same_Some}
 use Rattle.std.specs.Option.{IfSome}
 use Rattle.csv.specs.Machine.{Read, ends_with, fields_after, field_after, in_field, is_end, next_record, step}
 use Rattle.csv.specs.Reading.{default_config}

@@ -1,5 +1,6 @@
 -- The first refusal of a list of records.
-use Rattle.msrp_plan.proofs.Common.{◌≡◌, ℕ, ◌+◌, ◌-◌, ◌<◌, ◌≤◌, List, Option, Some, None, Ok, Err, length, take, refl, ap, arith, suc, zero, option_map, cons_option, filter_map, range_with_len, PlanModel}
+use Rattle.std.proofs.Common.{◌≡◌, ◌+◌, ◌-◌, ◌<◌, ◌≤◌}
+use Rattle.msrp_plan.proofs.Common.{ℕ, List, Option, Some, None, Ok, Err, length, take, refl, ap, arith, suc, zero, option_map, cons_option, filter_map, range_with_len, PlanModel}
 use Rattle.msrp_plan.specs.declared.faults.PlanFault.{PlanFault}
 use Rattle.std.specs.List.{slice_get}
 use Rattle.msrp_text.specs.Laws.{IsAccepted, IsFirstRefused, fault_of_record}

@@ -1,5 +1,6 @@
 -- The plan of a list of records, record by record.
-use Rattle.msrp_plan.proofs.Common.{◌≡◌, ◌⊎◌, ℕ, Bool, true, false, ◌+◌, List, [], ◌∷◌, ◌++◌, Option, Some, None, Result, Ok, Err, length, take, refl, sym, ◌∙◌, ap, inl, inr, arith, append_assoc, append-nil, length-append, suc, filter_map, range_with_len, take-append_seam, take_all, fold-append, slice_get_past, PlanModel}
+use Rattle.std.proofs.Common.{◌≡◌, ◌⊎◌, ◌+◌, ◌∷◌, ◌++◌, ◌∙◌}
+use Rattle.msrp_plan.proofs.Common.{ℕ, Bool, true, false, List, [], Option, Some, None, Result, Ok, Err, length, take, refl, sym, ap, inl, inr, arith, append_assoc, append-nil, length-append, suc, filter_map, range_with_len, take-append_seam, take_all, fold-append, slice_get_past, PlanModel}
 use Rattle.msrp_plan.specs.declared.faults.PlanFault.{PlanFault}
 use Rattle.std.specs.Result.{result_and}
 use Rattle.std.specs.List.{slice_get}

@@ -1,6 +1,6 @@
 -- The line at the front of a text, as far as it was looked at.
-use Rattle.msrp_plan.proofs.Common.{◌≡◌, ◌≤◌, ◌<◌, ◌+◌, ◌-◌, ◌==◌, ◌&&◌, ◌||◌, ◌⊎◌, ◌++◌, ◌∷◌, ◌∙◌, [], ℕ, List, Bool, true, false, length, slice_index, subst, Option, Some, take, drop, refl, sym, ap, inl, inr, append_assoc, eq-eqb, ne_eqb, length-append, length-drop, arith, get_or-append, get_or-append_seam, nat_tests, not-true, and_parts, or_from, or_parts, list_any-append, list_any, drop-append-le, nil_from_length, take_all, take_at, take_more}
-use Rattle.std.proofs.Common.{take-append-drop, length-take-le}
+use Rattle.msrp_plan.proofs.Common.{[], ℕ, List, Bool, true, false, length, slice_index, subst, Option, Some, take, drop, refl, sym, ap, inl, inr, append_assoc, eq-eqb, ne_eqb, length-append, length-drop, arith, get_or-append, get_or-append_seam, nat_tests, not-true, and_parts, or_from, or_parts, list_any-append, list_any, drop-append-le, nil_from_length, take_all, take_at, take_more}
+use Rattle.std.proofs.Common.{◌≡◌, ◌≤◌, ◌<◌, ◌+◌, ◌-◌, ◌==◌, ◌&&◌, ◌||◌, ◌⊎◌, ◌++◌, ◌∷◌, ◌∙◌, take-append-drop, length-take-le}
 use Rattle.std.proofs.Math.Nat.{eq-or-lt_of_le}
 use Rattle.std.proofs.lemmas.Bool.{and_right, eqb-true, or_cases}
 use Rattle.std.proofs.lemmas.List.{append-nil, drop_at}

@@ -1,5 +1,6 @@
 -- Records judged: what a builder refuses, a reader refuses.
-use Rattle.msrp_plan.proofs.Common.{◌≡◌, ℕ, Bool, true, false, List, [], Option, Some, None, Result, Ok, Err, length, cond, refl, inl, inr, IsJudged, PlanModel, Every, Listed}
+use Rattle.std.proofs.Common.{◌≡◌}
+use Rattle.msrp_plan.proofs.Common.{ℕ, Bool, true, false, List, [], Option, Some, None, Result, Ok, Err, length, cond, refl, inl, inr, IsJudged, PlanModel, Every, Listed}
 use Rattle.msrp_plan.specs.declared.faults.PlanFault.{PlanFault}
 use Rattle.std.proofs.lemmas.Bool.{false≢true}
 use Rattle.msrp_plan.specs.Building.{new_task, task_fault, with_task}

@@ -1,5 +1,6 @@
 -- The lines of a text, counted as its bytes are taken.
-use Rattle.msrp_plan.proofs.Common.{◌≡◌, ◌≤◌, ◌<◌, ◌+◌, ◌-◌, ◌^◌, ◌==◌, ◌||◌, ◌++◌, ◌∷◌, ◌∙◌, [], ℕ, List, Bool, true, false, not, Option, Some, None, length, slice_index, take, drop, refl, sym, ap, subst, arith, inl, inr, append_assoc, length-append, length-drop, if◌then◌else◌, IsSome, option_map, Consumes, Keeps, list_any, and_parts, not-true, or_from, or_parts, drop-drop, get_or-drop, get_or-take, length-take-le, take_more, none-some, same_Some}
+use Rattle.std.proofs.Common.{◌≡◌, ◌≤◌, ◌<◌, ◌+◌, ◌-◌, ◌^◌, ◌==◌, ◌||◌, ◌++◌, ◌∷◌, ◌∙◌, if◌then◌else◌}
+use Rattle.msrp_plan.proofs.Common.{[], ℕ, List, Bool, true, false, not, Option, Some, None, length, slice_index, take, drop, refl, sym, ap, subst, arith, inl, inr, append_assoc, length-append, length-drop, IsSome, option_map, Consumes, Keeps, list_any, and_parts, not-true, or_from, or_parts, drop-drop, get_or-drop, get_or-take, length-take-le, take_more, none-some, same_Some}
 use Rattle.std.proofs.lemmas.Bool.{eqb-true, or_cases}
 use Rattle.csv.specs.declared.parser.State.TheVariants as st
 use Rattle.msrp_text.specs.Ahead.{lines_ahead, unread}

@@ -1,6 +1,6 @@
 -- Some plain lines, taken at once.
-use Rattle.msrp_plan.proofs.Common.{◌≡◌, ◌≤◌, ◌<◌, ◌+◌, ◌-◌, ◌++◌, ◌∷◌, ◌∙◌, [], ℕ, List, Bool, true, Option, Some, None, length, take, drop, not, refl, sym, ap, subst, arith, inl, append_assoc, IsSome, map, option_map, Consumes, list_all, and_parts, drop-drop, length-map}
-use Rattle.std.proofs.Common.{length-take-le}
+use Rattle.msrp_plan.proofs.Common.{[], ℕ, List, Bool, true, Option, Some, None, length, take, drop, not, refl, sym, ap, subst, arith, inl, append_assoc, IsSome, map, option_map, Consumes, list_all, and_parts, drop-drop, length-map}
+use Rattle.std.proofs.Common.{◌≡◌, ◌≤◌, ◌<◌, ◌+◌, ◌-◌, ◌++◌, ◌∷◌, ◌∙◌, length-take-le}
 use Rattle.std.proofs.Math.Seq.{drop-append_seam}
 use Rattle.csv.specs.declared.parser.State.TheVariants as st
 use Rattle.msrp_text.specs.Ahead.{unread}

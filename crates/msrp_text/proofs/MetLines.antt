@@ -1,5 +1,6 @@
 -- The line of a record of a number and plain fields, as it stands in a text.
-use Rattle.msrp_plan.proofs.Common.{◌==◌, ◌^◌, decimal, ◌≡◌, ◌≤◌, ◌<◌, ◌++◌, ◌∷◌, ◌∙◌, [], ℕ, Bool, List, true, false, not, length, refl, sym, ap, append_assoc, append-nil, arith, is_ascii_digit, AllByRecursion, list_all, list_any, and_from, and_parts, or_from, or_parts, nat_tests, decimal_nonempty, list_any-append}
+use Rattle.std.proofs.Common.{◌==◌, ◌^◌, ◌≡◌, ◌≤◌, ◌<◌, ◌++◌, ◌∷◌, ◌∙◌}
+use Rattle.msrp_plan.proofs.Common.{decimal, [], ℕ, Bool, List, true, false, not, length, refl, sym, ap, append_assoc, append-nil, arith, is_ascii_digit, AllByRecursion, list_all, list_any, and_from, and_parts, or_from, or_parts, nat_tests, decimal_nonempty, list_any-append}
 use Rattle.std.proofs.lemmas.List.{append_cancel_right}
 use Rattle.csv.specs.Writing.{default_writer, needs_byte}
 use Rattle.csv.specs.declared.parser.State.TheVariants as st

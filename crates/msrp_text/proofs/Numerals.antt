@@ -1,5 +1,6 @@
 -- Numbers as they are written, read again.
-use Rattle.msrp_plan.proofs.Common.{◌≡◌, ℕ, ◌+◌, ◌-◌, ◌*◌, ◌/◌, ◌%◌, ◌^◌, ◌<◌, ◌≤◌, ◌==◌, ◌||◌, not, Bool, true, false, cond, List, [], ◌∷◌, ◌++◌, length, get_or, decimal, Some, None, refl, ap, ◌∙◌, arith, inl, inr, is_ascii_digit, list_all, list_any, and_from, and_parts, cases_eq, nat_tests, decimal_digit, decimal_nonempty, list_all-append, fold-append, is_within}
+use Rattle.std.proofs.Common.{◌≡◌, ◌+◌, ◌-◌, ◌*◌, ◌/◌, ◌%◌, ◌^◌, ◌<◌, ◌≤◌, ◌==◌, ◌||◌, ◌∷◌, ◌++◌, ◌∙◌}
+use Rattle.msrp_plan.proofs.Common.{ℕ, not, Bool, true, false, cond, List, [], length, get_or, decimal, Some, None, refl, ap, arith, inl, inr, is_ascii_digit, list_all, list_any, and_from, and_parts, cases_eq, nat_tests, decimal_digit, decimal_nonempty, list_all-append, fold-append, is_within}
 use Rattle.std.proofs.lemmas.Fmt.{decimal_by_steps, first_decimal, length-decimal-le}
 use Rattle.csv.specs.Writing.{default_writer, needs_byte}
 use Rattle.msrp_text.specs.Fields.{digits_value, is_number, number_of}

@@ -1,5 +1,6 @@
 -- Records of plain fields as text, and read again.
-use Rattle.msrp_plan.proofs.Common.{◌≡◌, ℕ, ◌≤◌, ◌||◌, true, false, List, [], ◌∷◌, ◌++◌, length, Some, refl, ap, sym, ◌∙◌, arith, append_assoc, AllByRecursion, list_any, list_all, is_ascii_lowercase, and_parts, nat_tests, is_name, is_name_byte}
+use Rattle.std.proofs.Common.{◌≡◌, ◌≤◌, ◌||◌, ◌∷◌, ◌++◌, ◌∙◌}
+use Rattle.msrp_plan.proofs.Common.{ℕ, true, false, List, [], length, Some, refl, ap, sym, arith, append_assoc, AllByRecursion, list_any, list_all, is_ascii_lowercase, and_parts, nat_tests, is_name, is_name_byte}
 use Rattle.csv.specs.Machine.{next_record}
 use Rattle.csv.specs.Reading.{records_from}
 use Rattle.csv.specs.Writing.{default_writer, fields_text, is_blank, needs_byte, read_back, row_text}

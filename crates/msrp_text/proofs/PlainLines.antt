@@ -1,5 +1,6 @@
 -- Plain lines and the rules of comma-separated fields.
-use Rattle.msrp_plan.proofs.Common.{subst, ◌<◌, length, slice_index, arith, ◌≡◌, ◌==◌, ◌++◌, ◌∷◌, ◌∙◌, [], ℕ, List, Bool, Option, Some, None, refl, sym, ap, true, false, not, append_assoc, append-nil, inl, inr, option_map, Consumes, Keeps, prepend_known, list_any, and_from, and_parts, cases_Bool, not-true, or_parts, list_any-append, list_any_at}
+use Rattle.std.proofs.Common.{◌<◌, ◌≡◌, ◌==◌, ◌++◌, ◌∷◌, ◌∙◌}
+use Rattle.msrp_plan.proofs.Common.{subst, length, slice_index, arith, [], ℕ, List, Bool, Option, Some, None, refl, sym, ap, true, false, not, append_assoc, append-nil, inl, inr, option_map, Consumes, Keeps, prepend_known, list_any, and_from, and_parts, cases_Bool, not-true, or_parts, list_any-append, list_any_at}
 use Rattle.std.specs.Io.KnownBytes.{IsAtEnd}
 use Rattle.std.proofs.lemmas.Bool.{eqb-true}
 use Rattle.csv.specs.Machine.{next_record}

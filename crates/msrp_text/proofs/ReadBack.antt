@@ -1,5 +1,6 @@
 -- What is written of a well-formed plan reads back as that plan.
-use Rattle.msrp_plan.proofs.Common.{◌≡◌, ℕ, zero, suc, ◌+◌, ◌<◌, ◌≤◌, ◌==◌, ◌||◌, ◌&&◌, Bool, true, false, cond, List, [], ◌∷◌, ◌++◌, map, take, length, length-append, replicate, codes, decimal, Option, Some, None, Ok, refl, ap, sym, ◌∙◌, subst, arith, nat_lt, if◌then◌else◌, slice_get, slice_index_or, AllByRecursion, flat_map, list_any, range_with_len, nat_tests, get_or-map, length-map, length-replicate, recursion_from_All, list_any_at, sum_by-cons, is_within, jobs, is_global, is_name, PlanModel, TaskModel, no_task, task_at, ReleaseTimes, Every, Listed, is_listed, listed_ticks, held_after, IsLocking, IsPlan, even_after, held_times}
+use Rattle.std.proofs.Common.{◌≡◌, ◌+◌, ◌<◌, ◌≤◌, ◌==◌, ◌||◌, ◌&&◌, ◌∷◌, ◌++◌, ◌∙◌, if◌then◌else◌}
+use Rattle.msrp_plan.proofs.Common.{ℕ, zero, suc, Bool, true, false, cond, List, [], map, take, length, length-append, replicate, codes, decimal, Option, Some, None, Ok, refl, ap, sym, subst, arith, nat_lt, slice_get, slice_index_or, AllByRecursion, flat_map, list_any, range_with_len, nat_tests, get_or-map, length-map, length-replicate, recursion_from_All, list_any_at, sum_by-cons, is_within, jobs, is_global, is_name, PlanModel, TaskModel, no_task, task_at, ReleaseTimes, Every, Listed, is_listed, listed_ticks, held_after, IsLocking, IsPlan, even_after, held_times}
 use Rattle.msrp_plan.specs.declared.rows.TextVersion.{TextVersion}
 use Rattle.msrp_plan.specs.declared.rows.TextVersion.TheVariants.{V1, V2}
 use Rattle.msrp_plan.specs.declared.units.Op.{Op}

@@ -1,5 +1,6 @@
 -- The records of a text, as they are read in turn.
-use Rattle.msrp_plan.proofs.Common.{◌≡◌, ◌⊎◌, ℕ, ◌+◌, ◌<◌, ◌≤◌, Bool, true, false, List, [], ◌∷◌, ◌++◌, length, Option, Some, None, refl, sym, ◌∙◌, ap, inl, inr, arith, if◌then◌else◌, suc, zero, IsSome, option_map, ◌||◌, ◌&&◌, not, is_none}
+use Rattle.std.proofs.Common.{◌≡◌, ◌⊎◌, ◌+◌, ◌<◌, ◌≤◌, ◌∷◌, ◌++◌, ◌∙◌, if◌then◌else◌, ◌||◌, ◌&&◌}
+use Rattle.msrp_plan.proofs.Common.{ℕ, Bool, true, false, List, [], length, Option, Some, None, refl, sym, ap, inl, inr, arith, suc, zero, IsSome, option_map, not, is_none}
 use Rattle.csv.specs.Machine.{Read, next_record, step, is_end, fields_after, field_after, ends_at_end}
 use mathlib.Core.Bool.{true≢false}
 use Rattle.csv.specs.Reading.{ExplainsRead, NextIs, ReadRecord, ReadsNext, Ready, default_config, is_flexible, pending_of, reader_config, reader_state, reader_trim, records_from, records_next, source_of, stops_reader, strip_bom}

@@ -1,5 +1,6 @@
 -- Texts in UTF-8.
-use Rattle.msrp_plan.proofs.Common.{◌≡◌, ℕ, Bool, true, false, List, [], refl}
+use Rattle.std.proofs.Common.{◌≡◌}
+use Rattle.msrp_plan.proofs.Common.{ℕ, Bool, true, false, List, [], refl}
 use Rattle.std.specs.Str.{is_utf8}
 use Rattle.std.specs.Str.{IsUtf8}
 use Rattle.std.proofs.lemmas.Str.{IsUtf8-from_is_utf8, is_utf8-from_IsUtf8}

@@ -1,5 +1,6 @@
 -- Lines of known words and one more field.
-use Rattle.msrp_plan.proofs.Common.{◌≡◌, ℕ, ◌==◌, ◌++◌, ◌∷◌, ◌∙◌, [], true, false, List, Some, Option, Result, inl, inr, length, length-append, subst, take, slice_index, ◌<◌, ◌+◌, refl, sym, ap, arith, append_assoc, append-nil, OnOk, codes, list_any, take-append-add, or_from, or_parts, take_more, nat_tests, IsJudged, PlanModel}
+use Rattle.std.proofs.Common.{◌≡◌, ◌==◌, ◌++◌, ◌∷◌, ◌∙◌, ◌<◌, ◌+◌}
+use Rattle.msrp_plan.proofs.Common.{ℕ, [], true, false, List, Some, Option, Result, inl, inr, length, length-append, subst, take, slice_index, refl, sym, ap, arith, append_assoc, append-nil, OnOk, codes, list_any, take-append-add, or_from, or_parts, take_more, nat_tests, IsJudged, PlanModel}
 use Rattle.msrp_plan.specs.declared.rows.TextVersion.{TextVersion}
 use Rattle.msrp_plan.specs.declared.rows.TextVersion.TheVariants.{V2}
 use Rattle.msrp_plan.specs.declared.faults.PlanFault.{PlanFault}

@@ -1,5 +1,6 @@
 -- Records of usual lines, taken at a position.
-use Rattle.msrp_plan.proofs.Common.{◌≡◌, ℕ, Bool, true, false, List, Option, Some, None, Result, Ok, Err, ◌∙◌, ap, subst, inl, inr, OnOk, IsJudged, PlanModel}
+use Rattle.std.proofs.Common.{◌≡◌, ◌∙◌}
+use Rattle.msrp_plan.proofs.Common.{ℕ, Bool, true, false, List, Option, Some, None, Result, Ok, Err, ap, subst, inl, inr, OnOk, IsJudged, PlanModel}
 use Rattle.msrp_plan.specs.declared.faults.PlanFault.{PlanFault}
 use Rattle.msrp_plan.specs.declared.rows.TextVersion.{TextVersion}
 use Rattle.std.proofs.lemmas.Bool.{false≢true}

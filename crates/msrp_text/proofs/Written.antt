@@ -1,5 +1,6 @@
 -- Text that is written record by record, and units that are written one by one.
-use Rattle.msrp_plan.proofs.Common.{◌≡◌, ℕ, zero, suc, ◌+◌, ◌<◌, ◌≤◌, ◌==◌, Bool, true, false, cond, List, [], ◌∷◌, ◌++◌, map, take, drop, length, Option, Some, refl, ap, sym, ◌∙◌, subst, arith, append_assoc, append-nil, inl, inr, slice_get, slice_index_or, flat_map, drop-cons, cases_lt, nat_tests, flat_map-append, map-append, take_all, take_more, slice_get-get_or, get_or_from_slice_get, slice_get_within, Wrote, PlanModel, TaskModel, ReleaseTimes, Every, Listed, is_listed, listed_ticks, is_lock_of, is_unlock_of, locks, IsLocking, wrote-more}
+use Rattle.std.proofs.Common.{◌≡◌, ◌+◌, ◌<◌, ◌≤◌, ◌==◌, ◌∷◌, ◌++◌, ◌∙◌}
+use Rattle.msrp_plan.proofs.Common.{ℕ, zero, suc, Bool, true, false, cond, List, [], map, take, drop, length, Option, Some, refl, ap, sym, subst, arith, append_assoc, append-nil, inl, inr, slice_get, slice_index_or, flat_map, drop-cons, cases_lt, nat_tests, flat_map-append, map-append, take_all, take_more, slice_get-get_or, get_or_from_slice_get, slice_get_within, Wrote, PlanModel, TaskModel, ReleaseTimes, Every, Listed, is_listed, listed_ticks, is_lock_of, is_unlock_of, locks, IsLocking, wrote-more}
 use Rattle.msrp_plan.specs.declared.bytes.Sink.{Sink}
 use Rattle.msrp_plan.specs.declared.ids.ResId.{ResId}
 use Rattle.msrp_plan.specs.declared.units.Op.{Op}

@@ -1,5 +1,6 @@
 -- The bytes that are left of a text, of which some were read ahead.
-use Rattle.msrp_plan.specs.Common.{◌-◌, ℕ, Bool, List, Option, drop, take}
+use Rattle.std.specs.Prelude.{◌-◌}
+use Rattle.msrp_plan.specs.Common.{ℕ, Bool, List, Option, drop, take}
 use Rattle.std.specs.Option.{is_some}
 use Rattle.std.specs.Io.KnownBytes.{prepend_known}
 use Rattle.msrp_text.specs.declared.lines.Lines.{Lines}

@@ -1,7 +1,7 @@
 -- Texts and plans of the worked examples.
-use Rattle.msrp_plan.specs.Common.{ℕ, List, [], ◌∷◌, ◌++◌, codes, replicate, Err, PlanModel, Every, Listed}
+use Rattle.msrp_plan.specs.Common.{ℕ, List, [], codes, replicate, Err, PlanModel, Every, Listed}
 use Rattle.msrp_plan.specs.declared.faults.PlanFault.{PlanFault}
-use Rattle.std.specs.Prelude.{Result}
+use Rattle.std.specs.Prelude.{◌∷◌, ◌++◌, Result}
 use Rattle.msrp_plan.specs.declared.units.Op.TheVariants.{Run, Lock, Unlock}
 use Rattle.msrp_text.specs.declared.reading.TextError.{TextError}
 use Rattle.msrp_text.specs.declared.reading.TextError.TheVariants.{At}

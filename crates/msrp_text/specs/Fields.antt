@@ -1,5 +1,6 @@
 -- What the fields of a record say: words, numbers and names.
-use Rattle.msrp_plan.specs.Common.{ℕ, Bool, false, not, List, [], length, Option, Some, None, fold, slice_index, unwrap_or, ◌+◌, ◌-◌, ◌*◌, ◌==◌, ◌&&◌, ◌||◌, if◌then◌else◌, is_ascii_digit, list_all, option_and_then, bytes_eq, is_within}
+use Rattle.std.specs.Prelude.{◌+◌, ◌-◌, ◌*◌, ◌==◌, ◌&&◌, ◌||◌, if◌then◌else◌}
+use Rattle.msrp_plan.specs.Common.{ℕ, Bool, false, not, List, [], length, Option, Some, None, fold, slice_index, unwrap_or, is_ascii_digit, list_all, option_and_then, bytes_eq, is_within}
 use Rattle.std.specs.Str.{is_utf8}
 use Rattle.csv.specs.Records.{field_at}
 

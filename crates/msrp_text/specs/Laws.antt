@@ -1,5 +1,6 @@
 -- What an answer says of the records, one by one.
-use Rattle.msrp_plan.specs.Common.{ℕ, List, Some, None, length, slice_get, take, ◌≡◌, ◌+◌, ◌-◌, ◌<◌, ◌≤◌, Option, PlanModel}
+use Rattle.std.specs.Prelude.{◌≡◌, ◌+◌, ◌-◌, ◌<◌, ◌≤◌}
+use Rattle.msrp_plan.specs.Common.{ℕ, List, Some, None, length, slice_get, take, Option, PlanModel}
 use Rattle.msrp_plan.specs.declared.faults.PlanFault.{PlanFault}
 use Rattle.msrp_text.specs.Reading.{fault_after, plan_told}
 

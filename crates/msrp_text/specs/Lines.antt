@@ -1,5 +1,6 @@
 -- The line of a text in which a record begins, counted from 1.
-use Rattle.msrp_plan.specs.Common.{◌≡◌, ◌+◌, ◌-◌, ◌==◌, ◌&&◌, ◌||◌, ◌++◌, ◌≤◌, ◌<◌, ◌^◌, ℕ, Bool, true, false, not, ⊤, List, [], ◌∷◌, drop, length, slice_index, Option, Some, IsSome, if◌then◌else◌}
+use Rattle.std.specs.Prelude.{◌≡◌, ◌+◌, ◌-◌, ◌==◌, ◌&&◌, ◌||◌, ◌++◌, ◌≤◌, ◌<◌, ◌^◌, ◌∷◌, if◌then◌else◌}
+use Rattle.msrp_plan.specs.Common.{ℕ, Bool, true, false, not, ⊤, List, [], drop, length, slice_index, Option, Some, IsSome}
 use Rattle.csv.specs.declared.parser.State.TheVariants as st
 use Rattle.msrp_text.specs.Ahead.{unread}
 use Rattle.msrp_text.specs.Records.{csv_records, records_at, records_of}

@@ -1,6 +1,6 @@
 -- Plain lines, whose fields stand between commas.
-use Rattle.msrp_plan.specs.Common.{◌≡◌, ◌⊎◌, ◌≤◌, ◌<◌, ℕ, Bool, true, false, not, List, [], ◌∷◌, ◌++◌, length, take, Option, ◌==◌, ◌&&◌, ◌||◌, if◌then◌else◌, is_ascii_digit, flat_map, list_any}
-use Rattle.std.specs.Prelude.{MatchOption}
+use Rattle.msrp_plan.specs.Common.{ℕ, Bool, true, false, not, List, [], length, take, Option, is_ascii_digit, flat_map, list_any}
+use Rattle.std.specs.Prelude.{◌≡◌, ◌⊎◌, ◌≤◌, ◌<◌, ◌∷◌, ◌++◌, ◌==◌, ◌&&◌, ◌||◌, if◌then◌else◌, MatchOption}
 use Rattle.msrp_text.specs.declared.front.Front.{Front}
 use Rattle.msrp_text.specs.declared.front.Front.TheVariants as front
 use Rattle.msrp_text.specs.declared.front.PlainLine.{PlainLine}

@@ -1,5 +1,6 @@
 -- A plan as text: version 1 where no task is released by a list, else version 2.
-use Rattle.msrp_plan.specs.Common.{ℕ, List, [], ◌∷◌, ◌++◌, codes, decimal, map, slice_index_or, ◌+◌, if◌then◌else◌, flat_map, list_any, PlanModel, TaskModel, Every, Listed, ReleaseTimes, listed_ticks}
+use Rattle.std.specs.Prelude.{◌∷◌, ◌++◌, ◌+◌, if◌then◌else◌}
+use Rattle.msrp_plan.specs.Common.{ℕ, List, [], codes, decimal, map, slice_index_or, flat_map, list_any, PlanModel, TaskModel, Every, Listed, ReleaseTimes, listed_ticks}
 use Rattle.msrp_plan.specs.declared.rows.TextVersion.{TextVersion}
 use Rattle.msrp_plan.specs.declared.rows.TextVersion.TheVariants.{V1, V2}
 use Rattle.msrp_plan.specs.declared.units.Op.{Op}

@@ -1,8 +1,8 @@
 -- Where a reader of a plan stands between two records: what is to be read next, and the plan so far.
-use Rattle.msrp_plan.specs.Common.{ℕ, List, Option, Some, None, Ok, Err, codes, is_none, length, ◌≡◌, ◌⊎◌, ◌&&◌, ◌≤◌, if◌then◌else◌, empty_plan, PlanModel}
+use Rattle.msrp_plan.specs.Common.{ℕ, List, Option, Some, None, Ok, Err, codes, is_none, length, empty_plan, PlanModel}
 use Rattle.msrp_plan.specs.declared.faults.PlanFault.{PlanFault}
 use Rattle.msrp_plan.specs.declared.units.Step.{Step}
-use Rattle.std.specs.Prelude.{Result}
+use Rattle.std.specs.Prelude.{◌≡◌, ◌⊎◌, ◌&&◌, ◌≤◌, if◌then◌else◌, Result}
 use Rattle.msrp_plan.specs.declared.faults.PlanFault.TheVariants.{Memory}
 use Rattle.msrp_text.specs.Reading.{Answers, body_fault, cores_fault, lacks_number, number_told, plan_of, step_told, ticks_fault, version_fault, version_told, with_record}
 use Rattle.msrp_text.specs.declared.positions.Position.{Position}

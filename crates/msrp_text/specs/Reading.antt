@@ -1,12 +1,12 @@
 -- The plan that a list of records tells, or the first refusal of one of them.
-use Rattle.msrp_plan.specs.Common.{ℕ, Bool, not, List, [], ◌∷◌, length, Option, Some, None, Ok, Err, codes, drop, fold, is_none, nat_le, option_map, slice_get, slice_index_or, take, unwrap_or, ◌≡◌, ◌⊎◌, ◌+◌, ◌==◌, ◌&&◌, ◌||◌, if◌then◌else◌, filter_map, range_with_len, empty_plan, finish_fault, is_within, new_fault, new_task, op_fault, release_fault, resource_fault, takes_releases, task_fault, units_of, with_release, with_resource, with_task, with_units, name_position, PlanModel, TaskModel, Every, Listed, most_cores}
+use Rattle.msrp_plan.specs.Common.{ℕ, Bool, not, List, [], length, Option, Some, None, Ok, Err, codes, drop, fold, is_none, nat_le, option_map, slice_get, slice_index_or, take, unwrap_or, filter_map, range_with_len, empty_plan, finish_fault, is_within, new_fault, new_task, op_fault, release_fault, resource_fault, takes_releases, task_fault, units_of, with_release, with_resource, with_task, with_units, name_position, PlanModel, TaskModel, Every, Listed, most_cores}
 use Rattle.msrp_plan.specs.declared.faults.PlanFault.{PlanFault}
 use Rattle.msrp_plan.specs.declared.faults.PlanFault.TheVariants.{Limit}
 use Rattle.msrp_plan.specs.declared.ids.ResId.{ResId}
 use Rattle.msrp_plan.specs.declared.rows.TextVersion.{TextVersion}
 use Rattle.msrp_plan.specs.declared.rows.TextVersion.TheVariants.{V1, V2}
 use Rattle.msrp_plan.specs.declared.units.Step.{Step}
-use Rattle.std.specs.Prelude.{Result}
+use Rattle.std.specs.Prelude.{◌∷◌, ◌≡◌, ◌⊎◌, ◌+◌, ◌==◌, ◌&&◌, ◌||◌, if◌then◌else◌, Result}
 use Rattle.msrp_plan.specs.Building.{fault_if}
 use Rattle.msrp_plan.specs.declared.faults.PlanFault.TheVariants.{Version, OutOfPlace, FieldCount, Number}
 use Rattle.msrp_plan.specs.declared.units.Step.TheVariants.{Run, Lock, Unlock}

@@ -1,5 +1,6 @@
 -- The records of a text, and those that a reader of records has left.
-use Rattle.msrp_plan.specs.Common.{◌≡◌, ◌+◌, ◌++◌, ℕ, Bool, true, false, List, [], ◌∷◌, length, Option, Some, None, option_map, if◌then◌else◌}
+use Rattle.std.specs.Prelude.{◌≡◌, ◌+◌, ◌++◌, ◌∷◌, if◌then◌else◌}
+use Rattle.msrp_plan.specs.Common.{ℕ, Bool, true, false, List, [], length, Option, Some, None, option_map}
 use Rattle.csv.specs.Reading.{default_config, records, reader_source, records_from, source_of, strip_bom, reader_state}
 use Rattle.csv.specs.declared.parser.State.{State}
 use Rattle.csv.specs.declared.parser.State.TheVariants as st

@@ -1,9 +1,9 @@
 -- Lines that a plan mostly consists of: words that are known, and one more field.
-use Rattle.msrp_plan.specs.Common.{ℕ, Bool, true, false, List, ◌++◌, length, take, Option, Some, Ok, Err, OnOk, codes, nat_le, ◌≡◌, ◌≤◌, ◌<◌, list_any, PlanModel}
+use Rattle.msrp_plan.specs.Common.{ℕ, Bool, true, false, List, length, take, Option, Some, Ok, Err, OnOk, codes, nat_le, list_any, PlanModel}
 use Rattle.msrp_plan.specs.declared.faults.PlanFault.{PlanFault}
 use Rattle.msrp_plan.specs.declared.rows.TextVersion.{TextVersion}
 use Rattle.msrp_plan.specs.declared.units.Step.{Step}
-use Rattle.std.specs.Prelude.{Result}
+use Rattle.std.specs.Prelude.{◌++◌, ◌≡◌, ◌≤◌, ◌<◌, Result}
 use Rattle.msrp_plan.specs.Building.{IsJudged}
 use Rattle.msrp_plan.specs.declared.units.Step.TheVariants.{Run, Lock, Unlock}
 use Rattle.msrp_text.specs.Fields.{number_of, text_of}

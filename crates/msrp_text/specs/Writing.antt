@@ -1,5 +1,6 @@
 -- How units are written one by one: units of work wait until a lock or an unlock, or the end.
-use Rattle.msrp_plan.specs.Common.{ℕ, List, [], ◌∷◌, ◌++◌, length, map, ◌==◌, ◌<◌, ◌+◌, ⊤, if◌then◌else◌, PlanModel}
+use Rattle.std.specs.Prelude.{◌∷◌, ◌++◌, ◌==◌, ◌<◌, ◌+◌, if◌then◌else◌}
+use Rattle.msrp_plan.specs.Common.{ℕ, List, [], length, map, ⊤, PlanModel}
 use Rattle.msrp_plan.specs.declared.units.Op.{Op}
 use Rattle.msrp_plan.specs.declared.units.Step.{Step}
 use Rattle.msrp_plan.specs.declared.units.Op.TheVariants as unit

@@ -1,5 +1,6 @@
 //! Bytes that end lines, and how many empty lines they make.
-ghost use Rattle.msrp_plan.specs.Common.{◌^◌, IsSome, ◌≡◌, ◌<◌, ◌+◌, ◌==◌, ℕ, Some, true, false, if◌then◌else◌};
+ghost use Rattle.std.specs.Prelude.{◌^◌, ◌≡◌, ◌<◌, ◌+◌, ◌==◌, if◌then◌else◌};
+ghost use Rattle.msrp_plan.specs.Common.{IsSome, ℕ, Some, true, false};
 ghost use Rattle.msrp_text.specs.Lines as due;
 
 use crate::front::MARK;

@@ -1,5 +1,6 @@
 //! The records of a text, read in turn by `csv`.
-ghost use Rattle.msrp_plan.specs.Common.{◌≡◌, ◌↔◌, ℕ, List, Some, None, Err, IfOk, IfErr, OnOk, option_map, true, false};
+ghost use Rattle.std.specs.Prelude.{◌≡◌, ◌↔◌};
+ghost use Rattle.msrp_plan.specs.Common.{ℕ, List, Some, None, Err, IfOk, IfErr, OnOk, option_map, true, false};
 ghost use Rattle.csv.specs.Records.{fields_of};
 ghost use Rattle.csv.specs.declared.reader.Trim.TheVariants as trim;
 ghost use Rattle.csv.specs.Reading.{default_config, is_flexible, is_io, reader_config, reader_trim, stops_reader};

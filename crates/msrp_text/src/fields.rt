@@ -1,5 +1,6 @@
 //! The fields of a record: words, numbers and names.
-ghost use Rattle.msrp_plan.specs.Common.{◌≡◌, list_all, is_ascii_digit};
+ghost use Rattle.std.specs.Prelude.{◌≡◌};
+ghost use Rattle.msrp_plan.specs.Common.{list_all, is_ascii_digit};
 ghost use Rattle.csv.specs.Records.{fields_of};
 ghost use Rattle.msrp_text.specs.Fields.{has_word, is_number, name_at, number_at, number_of, text_of};
 

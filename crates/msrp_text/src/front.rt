@@ -1,6 +1,7 @@
 //! Plain lines, whose fields stand between commas: a plain line isn't empty, has no quote, doesn't begin as a byte order mark does, is
 //! shorter than [`LONGEST`], and ends with LF, CR or CRLF.
-ghost use Rattle.msrp_plan.specs.Common.{◌≡◌, ◌==◌, ◌&&◌, ◌||◌, ◌≤◌, ◌<◌, ◌+◌, ◌⊎◌, ◌++◌, ◌∷◌, codes, ℕ, List, [], Some, IfOk, IsSome, true, false, slice_index, length, take, drop};
+ghost use Rattle.std.specs.Prelude.{◌≡◌, ◌==◌, ◌&&◌, ◌||◌, ◌≤◌, ◌<◌, ◌+◌, ◌⊎◌, ◌++◌, ◌∷◌};
+ghost use Rattle.msrp_plan.specs.Common.{codes, ℕ, List, [], Some, IfOk, IsSome, true, false, slice_index, length, take, drop};
 ghost use Rattle.std.specs.Option.{IfSome};
 ghost use Rattle.csv.specs.Records.{fields_of, partial_of};
 ghost use Rattle.msrp_text.specs.Plain.{BeginsWith, BeginsWithDigit, EndsLine, Stands, is_plain, split_commas, split_from};

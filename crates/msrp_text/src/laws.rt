@@ -1,6 +1,7 @@
 //! Laws over the definitions: what an answer says of the records, one by one. Each function does nothing; its
 //! contract is the law.
-ghost use Rattle.msrp_plan.specs.Common.{◌≡◌, ℕ, List, Ok, Err, PlanModel, IsPlan};
+ghost use Rattle.std.specs.Prelude.{◌≡◌};
+ghost use Rattle.msrp_plan.specs.Common.{ℕ, List, Ok, Err, PlanModel, IsPlan};
 ghost use Rattle.msrp_plan.specs.declared.faults.PlanFault.{PlanFault};
 ghost use Rattle.msrp_text.specs.Laws.{IsAccepted, IsFirstRefused};
 ghost use Rattle.msrp_text.specs.PlanText.{plan_text};

@@ -1,5 +1,6 @@
 //! The bytes of a text, some of them read ahead, and the plain lines at their front.
-ghost use Rattle.msrp_plan.specs.Common.{◌^◌, IsSome, ◌≡◌, ◌≤◌, ◌<◌, ◌+◌, ◌++◌, ◌⊎◌, ◌==◌, ◌&&◌, not, ℕ, List, [], Some, None, IfOk, true, false, length, map, take, list_all};
+ghost use Rattle.std.specs.Prelude.{◌^◌, ◌≡◌, ◌≤◌, ◌<◌, ◌+◌, ◌++◌, ◌⊎◌, ◌==◌, ◌&&◌};
+ghost use Rattle.msrp_plan.specs.Common.{IsSome, not, ℕ, List, [], Some, None, IfOk, true, false, length, map, take, list_all};
 ghost use Rattle.msrp_text.specs.declared.front.TheConstants.{LONGEST};
 ghost use Rattle.msrp_text.specs.declared.lines.TheConstants.{ROOM};
 ghost use Rattle.std.specs.Io.{ReadsAtMost};

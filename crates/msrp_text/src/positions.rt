@@ -1,5 +1,6 @@
 //! Plan text, record by record.
-ghost use Rattle.msrp_plan.specs.Common.{◌≡◌, Some, None, Ok, OnOk, true, empty_plan, units_of, with_release, with_resource, with_task, with_units};
+ghost use Rattle.std.specs.Prelude.{◌≡◌};
+ghost use Rattle.msrp_plan.specs.Common.{Some, None, Ok, OnOk, true, empty_plan, units_of, with_release, with_resource, with_task, with_units};
 ghost use Rattle.std.specs.Result.{result_and};
 ghost use Rattle.csv.specs.Records.{fields_of};
 ghost use Rattle.msrp_plan.specs.Building.{IsJudged};

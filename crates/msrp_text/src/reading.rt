@@ -1,5 +1,6 @@
 //! Plan text, read.
-ghost use Rattle.msrp_plan.specs.Common.{◌≡◌, ◌↔◌, ℕ, List, Some, None, Ok, Err, true, source_failed, source_remaining};
+ghost use Rattle.std.specs.Prelude.{◌≡◌, ◌↔◌};
+ghost use Rattle.msrp_plan.specs.Common.{ℕ, List, Some, None, Ok, Err, true, source_failed, source_remaining};
 ghost use Rattle.std.specs.Result.{result_and};
 ghost use Rattle.csv.specs.Records.{fields_of};
 ghost use Rattle.msrp_text.specs.Reading.{Answers, csv_records, plan_of};

@@ -1,5 +1,6 @@
 //! The records of a text, read in turn.
-ghost use Rattle.msrp_plan.specs.Common.{◌≡◌, ◌==◌, ◌⊎◌, ◌≤◌, ◌<◌, ◌+◌, ◌++◌, ◌∷◌, [], codes, ℕ, List, Some, None, Err, IfOk, IfErr, OnOk, OnErr, Ok, IsSome, ◌^◌, option_map, length, map, take, true, false, list_all, list_any};
+ghost use Rattle.std.specs.Prelude.{◌≡◌, ◌==◌, ◌⊎◌, ◌≤◌, ◌<◌, ◌+◌, ◌++◌, ◌∷◌, ◌^◌};
+ghost use Rattle.msrp_plan.specs.Common.{[], codes, ℕ, List, Some, None, Err, IfOk, IfErr, OnOk, OnErr, Ok, IsSome, option_map, length, map, take, true, false, list_all, list_any};
 ghost use Rattle.std.specs.Option.{IfSome};
 ghost use Rattle.csv.specs.Records.{fields_of};
 ghost use Rattle.msrp_text.specs.declared.front.TheConstants.{LONGEST};

@@ -1,5 +1,6 @@
 //! The lines that a plan mostly consists of, read as they stand: `op,run,N`, `op,lock,NAME`, `op,unlock,NAME` and `release,TICK`.
-ghost use Rattle.msrp_plan.specs.Common.{◌≡◌, ◌==◌, ℕ, List, Some, None, codes, false};
+ghost use Rattle.std.specs.Prelude.{◌≡◌, ◌==◌};
+ghost use Rattle.msrp_plan.specs.Common.{ℕ, List, Some, None, codes, false};
 ghost use Rattle.std.specs.Option.{IfSome};
 ghost use Rattle.msrp_text.specs.Fields.{number_of, text_of};
 ghost use Rattle.msrp_text.specs.Reading.{resource_told};

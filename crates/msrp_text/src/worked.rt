@@ -1,6 +1,7 @@
 //! Worked examples, computed from the definitions alone: texts, byte by byte, with the plan that they tell or
 //! the refusal. Each function does nothing; its contract is the example.
-ghost use Rattle.msrp_plan.specs.Common.{◌≡◌, ◌++◌, codes, Ok};
+ghost use Rattle.std.specs.Prelude.{◌≡◌, ◌++◌};
+ghost use Rattle.msrp_plan.specs.Common.{codes, Ok};
 ghost use Rattle.msrp_plan.specs.declared.faults.PlanFault.TheVariants.{Limit};
 ghost use Rattle.msrp_text.specs.Lines.{BeginsIn};
 ghost use Rattle.msrp_text.specs.Reading.{csv_records, plan_of};

@@ -1,5 +1,6 @@
 //! Plan text, written.
-ghost use Rattle.msrp_plan.specs.Common.{◌≡◌, ◌<◌, ◌+◌, ◌^◌, ◌++◌, [], ◌∷◌, length, map, codes, decimal, OnOk, OnErr, true, false, flat_map, Wrote, sink_failed, task_at, Every, Listed, listed_ticks, IsPlan};
+ghost use Rattle.std.specs.Prelude.{◌≡◌, ◌<◌, ◌+◌, ◌^◌, ◌++◌, ◌∷◌};
+ghost use Rattle.msrp_plan.specs.Common.{[], length, map, codes, decimal, OnOk, OnErr, true, false, flat_map, Wrote, sink_failed, task_at, Every, Listed, listed_ticks, IsPlan};
 ghost use Rattle.msrp_text.specs.PlanText.{declaration, head_records, plan_text, record_text, records_text, release_record, resource_record, steps_of, task_records, times_records, version_of, version_record};
 ghost use Rattle.msrp_text.specs.Writing.{IsNamedUnit, run_after, run_steps, steps_before, steps_text};
 

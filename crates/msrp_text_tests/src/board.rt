@@ -1,6 +1,7 @@
 //! Boards that run, on one thread and on several. The calls below make sure at run time of what each call wants, by
 //! the seat's readers.
-ghost use Rattle.msrp_plan.specs.Common.{◌≡◌, ◌<◌, ◌≤◌, length, IfOk, IfSome, All};
+ghost use Rattle.std.specs.Prelude.{◌≡◌, ◌<◌, ◌≤◌};
+ghost use Rattle.msrp_plan.specs.Common.{length, IfOk, IfSome, All};
 ghost use Rattle.std.specs.Thread.{IsSync};
 ghost use Rattle.msrp_board.specs.declared.answers.Look.TheVariants.{Go};
 ghost use Rattle.msrp_board.specs.Seats.{IsCoreSeatOn, IsFresh};

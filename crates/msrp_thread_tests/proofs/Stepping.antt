@@ -1,5 +1,6 @@
 -- Two cores: how they begin, what their joined seats hold in the end, and how their logs fit the settled board.
-use Rattle.msrp_plan.proofs.Common.{◌≡◌, ℕ, ◌<◌, [], ◌∷◌, Some, nat_lt, arith, sym, ap, ◌∙◌, subst, slice_get, false, lt-ltb, carries_ahead, CoreRun, PlanModel}
+use Rattle.std.proofs.Common.{◌≡◌, ◌<◌, ◌∷◌, ◌∙◌}
+use Rattle.msrp_plan.proofs.Common.{ℕ, [], Some, nat_lt, arith, sym, ap, subst, slice_get, false, lt-ltb, carries_ahead, CoreRun, PlanModel}
 use Rattle.msrp_board.specs.declared.answers.SeatPhase.TheVariants.{Waiting}
 use Rattle.msrp_board.specs.declared.books.Book.{Book}
 use Rattle.msrp_board.specs.declared.books.BoardSize.{BoardSize}

@@ -1,5 +1,6 @@
 -- Numbers as texts: the next one.
-use Rattle.msrp_plan.proofs.Common.{◌≡◌, ℕ, List, [], ◌∷◌, ◌++◌, ◌+◌, ◌-◌, ◌/◌, ◌%◌, ◌<◌, ◌^◌, slice_index, length, take, ap, sym, ◌∙◌, arith, inl, inr, decimal, cases_lt, get_or-append, get_or-append_seam, length-take-le, take-append-le, take_all, decimal_digit, decimal_nonempty}
+use Rattle.std.proofs.Common.{◌≡◌, ◌∷◌, ◌++◌, ◌+◌, ◌-◌, ◌/◌, ◌%◌, ◌<◌, ◌^◌, ◌∙◌}
+use Rattle.msrp_plan.proofs.Common.{ℕ, List, [], slice_index, length, take, ap, sym, arith, inl, inr, decimal, cases_lt, get_or-append, get_or-append_seam, length-take-le, take-append-le, take_all, decimal_digit, decimal_nonempty}
 use Rattle.std.proofs.lemmas.List.{length-append}
 use Rattle.std.proofs.lemmas.Fmt.{decimal_step}
 

@@ -1,5 +1,6 @@
 -- What each rule of a row's record makes of it, and the row that it tells.
-use Rattle.msrp_plan.proofs.Common.{◌≡◌, ℕ, Bool, true, false, cond, not, ◌||◌, ◌==◌, List, length, Option, Some, None, Ok, Err, is_none, is_some, unwrap_or, option_map, refl, sym, ap, ◌∙◌, option_and_then, and_parts, PlanModel, has_shape, may_carry}
+use Rattle.std.proofs.Common.{◌≡◌, ◌||◌, ◌==◌, ◌∙◌}
+use Rattle.msrp_plan.proofs.Common.{ℕ, Bool, true, false, cond, not, List, length, Option, Some, None, Ok, Err, is_none, is_some, unwrap_or, option_map, refl, sym, ap, option_and_then, and_parts, PlanModel, has_shape, may_carry}
 use Rattle.msrp_plan.specs.declared.ids.JobId.{JobId}
 use Rattle.msrp_plan.specs.declared.ids.ResId.{ResId}
 use Rattle.msrp_plan.specs.declared.ids.TaskId.{TaskId}

@@ -1,5 +1,6 @@
 -- The row of the next record, where its tick and its core are known.
-use Rattle.msrp_plan.proofs.Common.{◌≡◌, ℕ, ◌+◌, ◌-◌, ◌^◌, ◌<◌, ◌||◌, Bool, true, false, not, List, [], ◌∷◌, decimal, Option, Some, None, is_none, unwrap_or, refl, sym, ap, ◌∙◌, arith, subst, if◌then◌else◌, option_map, or_parts, same_Some, PlanModel, has_shape, may_carry}
+use Rattle.std.proofs.Common.{◌≡◌, ◌+◌, ◌-◌, ◌^◌, ◌<◌, ◌||◌, ◌∷◌, ◌∙◌, if◌then◌else◌}
+use Rattle.msrp_plan.proofs.Common.{ℕ, Bool, true, false, not, List, [], decimal, Option, Some, None, is_none, unwrap_or, refl, sym, ap, arith, subst, option_map, or_parts, same_Some, PlanModel, has_shape, may_carry}
 use Rattle.msrp_plan.specs.declared.ids.CoreId.{CoreId}
 use Rattle.msrp_plan.specs.declared.ids.JobId.{JobId}
 use Rattle.msrp_plan.specs.declared.ids.ResId.{ResId}

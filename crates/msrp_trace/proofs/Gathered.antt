@@ -1,5 +1,6 @@
 -- Texts that were gathered, one after the other.
-use Rattle.msrp_plan.proofs.Common.{◌≡◌, ℕ, List, [], ◌++◌, Option, ap, sym, ◌∙◌, append_assoc, append-nil, Wrote, wrote-more}
+use Rattle.std.proofs.Common.{◌≡◌, ◌++◌, ◌∙◌}
+use Rattle.msrp_plan.proofs.Common.{ℕ, List, [], Option, ap, sym, append_assoc, append-nil, Wrote, wrote-more}
 use Rattle.msrp_plan.specs.declared.bytes.Sink.{Sink}
 use Rattle.msrp_trace.specs.Gathering.{Gathers}
 

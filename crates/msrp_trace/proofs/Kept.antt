@@ -1,8 +1,8 @@
 -- What a core repeats: the text of a row that differs from the last one in the tick alone.
-use Rattle.msrp_plan.proofs.Common.{◌≡◌, ℕ, List, ◌∙◌, refl, true, ◌==◌, ◌&&◌, Option, Some, None, is_none, and_parts, same_res, PlanModel, same_choice, same_choice_is, same_res_is}
+use Rattle.msrp_plan.proofs.Common.{ℕ, List, refl, true, Option, Some, None, is_none, and_parts, same_res, PlanModel, same_choice, same_choice_is, same_res_is}
 use Rattle.msrp_plan.specs.declared.rows.Row.{Row}
 use Rattle.msrp_plan.specs.declared.rows.TextVersion.{TextVersion}
-use Rattle.std.proofs.Common.{IsSomeAnd}
+use Rattle.std.proofs.Common.{◌≡◌, ◌∙◌, ◌==◌, ◌&&◌, IsSomeAnd}
 use Rattle.std.specs.Option.{IfSome}
 use Rattle.std.proofs.lemmas.Bool.{eqb-true}
 use Rattle.msrp_trace.specs.Gathering.{after_tick}

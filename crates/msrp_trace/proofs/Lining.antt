@@ -1,5 +1,6 @@
 -- The text that a reader reads, one record more.
-use Rattle.msrp_plan.proofs.Common.{◌≡◌, ◌+◌, ℕ, List, Option, Result, Err, sym, subst}
+use Rattle.std.proofs.Common.{◌≡◌, ◌+◌}
+use Rattle.msrp_plan.proofs.Common.{ℕ, List, Option, Result, Err, sym, subst}
 use Rattle.msrp_plan.specs.declared.rows.Row.{Row}
 use Rattle.msrp_text.specs.Lines.{HasRead}
 use Rattle.msrp_text.specs.declared.records.RecordReader.{RecordReader}

@@ -1,5 +1,6 @@
 -- A row whose text comes next.
-use Rattle.msrp_plan.proofs.Common.{◌≡◌, ℕ, ◌+◌, true, List, [], ◌∷◌, ◌++◌, codes, decimal, Option, Some, Ok, option_map, refl, sym, ap, ◌∙◌, subst, append_assoc, PlanModel, IsPlan}
+use Rattle.std.proofs.Common.{◌≡◌, ◌+◌, ◌∷◌, ◌++◌, ◌∙◌}
+use Rattle.msrp_plan.proofs.Common.{ℕ, true, List, [], codes, decimal, Option, Some, Ok, option_map, refl, sym, ap, subst, append_assoc, PlanModel, IsPlan}
 use Rattle.msrp_plan.specs.declared.rows.Row.{Row}
 use Rattle.msrp_plan.specs.declared.rows.TextVersion.{TextVersion}
 use Rattle.std.proofs.lemmas.List.{append_cancel_right}

@@ -1,5 +1,5 @@
 -- The rows of a legal run name what the plan has, and their numbers are short.
-use Rattle.msrp_plan.proofs.Common.{◌≡◌, ℕ, zero, suc, ◌+◌, ◌*◌, ◌<◌, ◌≤◌, ◌&&◌, Bool, true, List, [], ◌∷◌, ◌++◌, map, Option, Some, None, IfSome, length, refl, sym, subst, arith, slice_get, length-append, nat_lt, count_by, mul-le-mul_left, mul-le-mul_right, AllByRecursion, cons_option, filter_map, list_all, range_with_len, and_from, All-contains, All-from_recursion, PlanModel, release, task_at, units, job_at, jobs, jobs_of, jobs_on, res_of_unit, carries_its_ahead, fifo, is_release_of, requester, EachAfter, IsLegal, IsRunStart, has_shape, is_queue, may_carry, IsPlan, core_jobs_below, all_filtered, IsTurn, idle_res, legal_due, legal_turn}
+use Rattle.msrp_plan.proofs.Common.{ℕ, zero, suc, Bool, true, List, [], map, Option, Some, None, IfSome, length, refl, sym, subst, arith, slice_get, length-append, nat_lt, count_by, mul-le-mul_left, mul-le-mul_right, AllByRecursion, cons_option, filter_map, list_all, range_with_len, and_from, All-contains, All-from_recursion, PlanModel, release, task_at, units, job_at, jobs, jobs_of, jobs_on, res_of_unit, carries_its_ahead, fifo, is_release_of, requester, EachAfter, IsLegal, IsRunStart, has_shape, is_queue, may_carry, IsPlan, core_jobs_below, all_filtered, IsTurn, idle_res, legal_due, legal_turn}
 use Rattle.msrp_plan.specs.declared.ids.JobId.{JobId}
 use Rattle.msrp_plan.specs.declared.ids.ResId.{ResId}
 use Rattle.msrp_plan.specs.declared.rows.Kind.{Kind}
@@ -8,7 +8,7 @@ use Rattle.msrp_plan.specs.declared.rows.Row.{Row}
 use Rattle.msrp_plan.specs.declared.rows.TextVersion.{TextVersion}
 use Rattle.msrp_plan.specs.declared.rows.TextVersion.TheVariants.{V1, V2}
 use Rattle.msrp_plan.specs.declared.units.Op.{Op}
-use Rattle.std.proofs.Common.{lt-ltb}
+use Rattle.std.proofs.Common.{◌≡◌, ◌+◌, ◌*◌, ◌<◌, ◌≤◌, ◌&&◌, ◌∷◌, ◌++◌, lt-ltb}
 use Rattle.std.proofs.Math.Nat.{div-le_self}
 use Rattle.std.proofs.lemmas.List.{length-drop}
 use Rattle.msrp_plan.specs.declared.units.Op.TheVariants.{Run, Lock, Unlock}

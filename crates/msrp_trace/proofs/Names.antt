@@ -1,9 +1,9 @@
 -- Names in a list of names: where one stands, and that what is no text is none.
-use Rattle.msrp_plan.proofs.Common.{◌≡◌, ℕ, zero, suc, ◌+◌, ◌<◌, ◌≤◌, true, false, cond, not, ◌&&◌, nat_le, List, [], ◌∷◌, length, map, Some, None, option_map, refl, sym, ap, ◌∙◌, arith, slice_get, slice_index_or, subst, AllByRecursion, list_all, position_or_len, bytes_eq, is_ascii_lowercase, length-map, and_parts, false_from_ne_true, le-ltb, nat_tests, slice_get_within, recursion_from_All, All-weaker, is_name, is_name_byte, name_position, PlanModel, TaskModel, no_task, task_at, AreNames, IsPlan}
+use Rattle.msrp_plan.proofs.Common.{ℕ, zero, suc, true, false, cond, not, nat_le, List, [], length, map, Some, None, option_map, refl, sym, ap, arith, slice_get, slice_index_or, subst, AllByRecursion, list_all, position_or_len, bytes_eq, is_ascii_lowercase, length-map, and_parts, false_from_ne_true, le-ltb, nat_tests, slice_get_within, recursion_from_All, All-weaker, is_name, is_name_byte, name_position, PlanModel, TaskModel, no_task, task_at, AreNames, IsPlan}
 use Rattle.std.specs.List.{IsDistinct}
 use Rattle.msrp_plan.specs.declared.ids.ResId.{ResId}
 use Rattle.msrp_plan.specs.declared.ids.TaskId.{TaskId}
-use Rattle.std.proofs.Common.{lt-ltb}
+use Rattle.std.proofs.Common.{◌≡◌, ◌+◌, ◌<◌, ◌≤◌, ◌&&◌, ◌∷◌, ◌∙◌, lt-ltb}
 use Rattle.std.specs.Str.{IsUtf8}
 use Rattle.std.proofs.Math.ListN.{get_or-map}
 use Rattle.std.proofs.lemmas.List.Elements.{All-cons}

@@ -1,5 +1,6 @@
 -- What is written of rows reads back as those rows.
-use Rattle.msrp_plan.proofs.Common.{◌≡◌, ℕ, ◌+◌, ◌*◌, ◌<◌, ◌≤◌, ◌==◌, ◌&&◌, ◌||◌, not, true, false, cond, List, [], ◌∷◌, ◌++◌, map, length, decimal, Option, Some, None, is_none, is_some, option_map, unwrap_or, refl, ap, sym, ◌∙◌, subst, arith, nat_lt, nat_le, slice_index_or, AllByRecursion, flat_map, list_all, is_ascii_lowercase, bytes_eq, and_parts, and_from, false_from_ne_true, nat_tests, get_or-map, length-map, slice_get-get_or, carries_ahead, carries_its_ahead, is_name, is_name_byte, PlanModel, TaskModel, no_task, task_at, task_of, has_shape, is_queue, may_carry, IsRunStart, IsPlan}
+use Rattle.std.proofs.Common.{◌≡◌, ◌+◌, ◌*◌, ◌<◌, ◌≤◌, ◌==◌, ◌&&◌, ◌||◌, ◌∷◌, ◌++◌, ◌∙◌}
+use Rattle.msrp_plan.proofs.Common.{ℕ, not, true, false, cond, List, [], map, length, decimal, Option, Some, None, is_none, is_some, option_map, unwrap_or, refl, ap, sym, subst, arith, nat_lt, nat_le, slice_index_or, AllByRecursion, flat_map, list_all, is_ascii_lowercase, bytes_eq, and_parts, and_from, false_from_ne_true, nat_tests, get_or-map, length-map, slice_get-get_or, carries_ahead, carries_its_ahead, is_name, is_name_byte, PlanModel, TaskModel, no_task, task_at, task_of, has_shape, is_queue, may_carry, IsRunStart, IsPlan}
 use Rattle.msrp_plan.specs.declared.ids.JobId.{JobId}
 use Rattle.msrp_plan.specs.declared.ids.ResId.{ResId}
 use Rattle.msrp_plan.specs.declared.rows.Kind.{Kind}

@@ -1,5 +1,6 @@
 -- A reader of rows that is read through: what it has given, and what is left.
-use Rattle.msrp_plan.proofs.Common.{◌≡◌, ◌⊎◌, ◌++◌, ◌∷◌, [], ℕ, List, Option, None, Some, Result, Ok, Err, refl, ap, sym, ◌∙◌, inl, inr, append-nil, append_assoc, PlanModel}
+use Rattle.std.proofs.Common.{◌≡◌, ◌⊎◌, ◌++◌, ◌∷◌, ◌∙◌}
+use Rattle.msrp_plan.proofs.Common.{[], ℕ, List, Option, None, Some, Result, Ok, Err, refl, ap, sym, inl, inr, append-nil, append_assoc, PlanModel}
 use Rattle.msrp_plan.specs.declared.rows.Row.{Row}
 use Rattle.msrp_plan.specs.declared.rows.TextVersion.{TextVersion}
 use Rattle.msrp_trace.specs.Reading.{Told, rows_of, told_by, version_of}

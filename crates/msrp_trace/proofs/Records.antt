@@ -1,11 +1,11 @@
 -- The records of a trace, field after field.
-use Rattle.msrp_plan.proofs.Common.{◌≡◌, ℕ, List, [], ◌∷◌, ◌++◌, refl, sym, ap, ◌∙◌, append_assoc, append-nil, codes, decimal, Some, get_or, length, take, ◌<◌, ◌≤◌, ◌+◌, ◌&&◌, true, Option, None, IfSome, arith, subst, flat_map-append, take-append-add, length-take-le, take_all, take_more, flat_map, PlanModel}
+use Rattle.msrp_plan.proofs.Common.{ℕ, List, [], refl, sym, ap, append_assoc, append-nil, codes, decimal, Some, get_or, length, take, true, Option, None, IfSome, arith, subst, flat_map-append, take-append-add, length-take-le, take_all, take_more, flat_map, PlanModel}
 use Rattle.msrp_plan.specs.declared.ids.JobId.{JobId}
 use Rattle.msrp_plan.specs.declared.ids.ResId.{ResId}
 use Rattle.msrp_plan.specs.declared.rows.Row.{Row}
 use Rattle.msrp_plan.specs.declared.rows.TextVersion.{TextVersion}
 use Rattle.msrp_plan.specs.declared.rows.TextVersion.TheVariants.{V1, V2}
-use Rattle.std.proofs.Common.{lt-ltb}
+use Rattle.std.proofs.Common.{◌≡◌, ◌∷◌, ◌++◌, ◌∙◌, ◌<◌, ◌≤◌, ◌+◌, ◌&&◌, lt-ltb}
 use Rattle.std.proofs.Math.Seq.{take-take}
 use Rattle.msrp_plan.specs.Words.{kind_text}
 use Rattle.msrp_text.specs.PlanText.{version_text}

@@ -1,5 +1,6 @@
 -- The texts that are kept of the cores' rows.
-use Rattle.msrp_plan.proofs.Common.{◌≡◌, ℕ, ◌%◌, [], None, sym, ap, ◌∙◌, slice_index_or}
+use Rattle.std.proofs.Common.{◌≡◌, ◌%◌, ◌∙◌}
+use Rattle.msrp_plan.proofs.Common.{ℕ, [], None, sym, ap, slice_index_or}
 use Rattle.std.proofs.Math.ListN.{get_or-map}
 use Rattle.msrp_trace.specs.Texts.{TextsModel, text_of_core, texts_view}
 use Rattle.msrp_trace.specs.declared.line.CoreText.{CoreText}

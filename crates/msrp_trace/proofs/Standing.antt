@@ -1,5 +1,6 @@
 -- The records that a reader stands in, one more.
-use Rattle.msrp_plan.proofs.Common.{◌≡◌, ◌∙◌, ◌⊎◌, ℕ, ◌+◌, ◌-◌, Bool, true, List, [], ◌∷◌, Option, Some, Result, Err, drop, length, length-drop, refl, sym, ap, subst, arith, inl, inr, slice_index_or, cases_lt, drop_more}
+use Rattle.std.proofs.Common.{◌≡◌, ◌∙◌, ◌⊎◌, ◌+◌, ◌-◌, ◌∷◌}
+use Rattle.msrp_plan.proofs.Common.{ℕ, Bool, true, List, [], Option, Some, Result, Err, drop, length, length-drop, refl, sym, ap, subst, arith, inl, inr, slice_index_or, cases_lt, drop_more}
 use Rattle.msrp_plan.specs.declared.rows.Row.{Row}
 use Rattle.msrp_text.specs.Reading.{record_at}
 use Rattle.msrp_text.specs.Records.{GivesLine, GivesNext}

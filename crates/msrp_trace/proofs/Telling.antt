@@ -1,5 +1,6 @@
 -- What records tell, one by one: the rows, and the refusal after them.
-use Rattle.msrp_plan.proofs.Common.{◌≡◌, ℕ, suc, ◌+◌, Bool, true, false, cond, List, [], ◌∷◌, take, Option, Some, None, Result, Ok, Err, is_none, refl, sym, ap, ◌∙◌, subst, inl, inr, arith, slice_get, option_map, cons_option, filter_map, option_and_then, PlanModel}
+use Rattle.std.proofs.Common.{◌≡◌, ◌+◌, ◌∷◌, ◌∙◌}
+use Rattle.msrp_plan.proofs.Common.{ℕ, suc, Bool, true, false, cond, List, [], take, Option, Some, None, Result, Ok, Err, is_none, refl, sym, ap, subst, inl, inr, arith, slice_get, option_map, cons_option, filter_map, option_and_then, PlanModel}
 use Rattle.msrp_plan.specs.declared.rows.Row.{Row}
 use Rattle.msrp_plan.specs.declared.rows.TextVersion.{TextVersion}
 use Rattle.std.specs.List.{prefix_len, take_while}

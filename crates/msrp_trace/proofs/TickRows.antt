@@ -1,5 +1,6 @@
 -- The rows of a tick, one of each core, and the text of them all.
-use Rattle.msrp_plan.proofs.Common.{◌≡◌, ℕ, ◌+◌, ◌%◌, ◌<◌, ◌≤◌, suc, true, List, [], ◌∷◌, ◌++◌, map, length, take, drop, codes, decimal, Option, Some, inl, inr, refl, sym, ap, ◌∙◌, subst, arith, append_assoc, append-nil, length-append, get_or, slice_get, flat_map, list_all, option_map, and_from, drop-drop, get_or_read, take_more, slice_get_cases, slice_get_within, PlanModel, IsPlan}
+use Rattle.std.proofs.Common.{◌≡◌, ◌+◌, ◌%◌, ◌<◌, ◌≤◌, ◌∷◌, ◌++◌, ◌∙◌}
+use Rattle.msrp_plan.proofs.Common.{ℕ, suc, true, List, [], map, length, take, drop, codes, decimal, Option, Some, inl, inr, refl, sym, ap, subst, arith, append_assoc, append-nil, length-append, get_or, slice_get, flat_map, list_all, option_map, and_from, drop-drop, get_or_read, take_more, slice_get_cases, slice_get_within, PlanModel, IsPlan}
 use Rattle.msrp_plan.specs.declared.rows.Row.{Row}
 use Rattle.msrp_plan.specs.declared.rows.TextVersion.{TextVersion}
 use Rattle.std.proofs.Math.ListN.{get_or-map}

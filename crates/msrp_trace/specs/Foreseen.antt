@@ -1,5 +1,6 @@
 -- What is foreseen of a row: the texts that are kept of it, and what it may name.
-use Rattle.msrp_plan.specs.Common.{◌≡◌, ℕ, ◌%◌, slice_index_or, All, PlanModel}
+use Rattle.std.specs.Prelude.{◌≡◌, ◌%◌}
+use Rattle.msrp_plan.specs.Common.{ℕ, slice_index_or, All, PlanModel}
 use Rattle.msrp_plan.specs.declared.rows.Row.{Row}
 use Rattle.msrp_plan.specs.declared.rows.TextVersion.{TextVersion}
 use Rattle.msrp_trace.specs.Gathering.{after_tick}

@@ -1,5 +1,6 @@
 -- Text on its way to a sink: what was gathered, and what was written.
-use Rattle.msrp_plan.specs.Common.{◌≡◌, ℕ, List, ◌++◌, codes, decimal, Option, flat_map, PlanModel, Wrote}
+use Rattle.std.specs.Prelude.{◌≡◌, ◌++◌}
+use Rattle.msrp_plan.specs.Common.{ℕ, List, codes, decimal, Option, flat_map, PlanModel, Wrote}
 use Rattle.msrp_plan.specs.Words.{kind_text}
 use Rattle.msrp_plan.specs.declared.rows.Row.{Row}
 use Rattle.msrp_plan.specs.declared.rows.TextVersion.{TextVersion}

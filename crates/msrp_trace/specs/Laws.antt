@@ -1,5 +1,6 @@
 -- Rows that were written, as they are read.
-use Rattle.msrp_plan.specs.Common.{ℕ, Bool, true, ◌&&◌, is_none, nat_lt, Option, Some, None, carries_its_ahead, without_ahead, PlanModel}
+use Rattle.std.specs.Prelude.{◌&&◌}
+use Rattle.msrp_plan.specs.Common.{ℕ, Bool, true, is_none, nat_lt, Option, Some, None, carries_its_ahead, without_ahead, PlanModel}
 use Rattle.msrp_plan.specs.declared.ids.JobId.{JobId}
 use Rattle.msrp_plan.specs.declared.rows.Row.{Row}
 use Rattle.msrp_plan.specs.declared.rows.TextVersion.{TextVersion}

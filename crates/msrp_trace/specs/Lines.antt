@@ -1,5 +1,6 @@
 -- The record that a core had last, but for its tick.
-use Rattle.msrp_plan.specs.Common.{◌≡◌, ◌≤◌, ◌++◌, length, ℕ, List, Option, Some, Bool, true, ◌&&◌, ◌==◌, is_none, All, same_res, PlanModel, same_choice}
+use Rattle.std.specs.Prelude.{◌≡◌, ◌≤◌, ◌++◌, ◌&&◌, ◌==◌}
+use Rattle.msrp_plan.specs.Common.{length, ℕ, List, Option, Some, Bool, true, is_none, All, same_res, PlanModel, same_choice}
 use Rattle.msrp_plan.specs.declared.rows.Row.{Row}
 use Rattle.msrp_plan.specs.declared.rows.TextVersion.{TextVersion}
 use Rattle.msrp_plan.specs.declared.ids.JobId.{JobId}

@@ -1,10 +1,10 @@
 -- What a reader of rows has left, and what each call gives.
-use Rattle.msrp_plan.specs.Common.{◌++◌, ◌+◌, ◌^◌, ◌<◌, codes, decimal, ◌≡◌, ◌⊎◌, ℕ, Bool, true, false, List, [], ◌∷◌, Option, Some, None, Ok, Err, option_map, IsSome, IsOkAnd, ⊤, drop, length, slice_get, ◌-◌, source_remaining, PlanModel}
+use Rattle.msrp_plan.specs.Common.{codes, decimal, ℕ, Bool, true, false, List, [], Option, Some, None, Ok, Err, option_map, IsSome, IsOkAnd, ⊤, drop, length, slice_get, source_remaining, PlanModel}
 use Rattle.msrp_plan.specs.declared.bytes.Source.{Source}
 use Rattle.msrp_plan.specs.declared.ids.CoreId.{CoreId}
 use Rattle.msrp_plan.specs.declared.rows.Row.{Row}
 use Rattle.msrp_plan.specs.declared.rows.TextVersion.{TextVersion}
-use Rattle.std.specs.Prelude.{Result}
+use Rattle.std.specs.Prelude.{◌++◌, ◌+◌, ◌^◌, ◌<◌, ◌≡◌, ◌⊎◌, ◌∷◌, ◌-◌, Result}
 use Rattle.csv.specs.Records.{fields_of}
 use Rattle.msrp_text.specs.Lines.{HasRead}
 use Rattle.msrp_text.specs.Plain.{BeginsWith}

@@ -1,5 +1,6 @@
 -- The rows that the records of a text tell, and the refusal of the first record that is refused.
-use Rattle.msrp_plan.specs.Common.{ℕ, Bool, List, [], Option, Some, None, is_none, option_map, slice_get, ◌+◌, drop, filter_map, prefix_len, option_and_then, PlanModel}
+use Rattle.std.specs.Prelude.{◌+◌}
+use Rattle.msrp_plan.specs.Common.{ℕ, Bool, List, [], Option, Some, None, is_none, option_map, slice_get, drop, filter_map, prefix_len, option_and_then, PlanModel}
 use Rattle.msrp_plan.specs.declared.rows.Row.{Row}
 use Rattle.msrp_plan.specs.declared.rows.TextVersion.{TextVersion}
 use Rattle.std.specs.List.{take_while}

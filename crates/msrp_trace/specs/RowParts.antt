@@ -1,8 +1,8 @@
 -- What a record tells as a row, part by part, in the order of judging.
-use Rattle.msrp_plan.specs.Common.{◌≡◌, ℕ, List, Option, Some, None, Err, IsOkAnd, unwrap_or, if◌then◌else◌, PlanModel}
+use Rattle.msrp_plan.specs.Common.{ℕ, List, Option, Some, None, Err, IsOkAnd, unwrap_or, PlanModel}
 use Rattle.msrp_plan.specs.declared.rows.Row.{Row}
 use Rattle.msrp_plan.specs.declared.rows.TextVersion.{TextVersion}
-use Rattle.std.specs.Prelude.{Result}
+use Rattle.std.specs.Prelude.{◌≡◌, if◌then◌else◌, Result}
 use Rattle.msrp_text.specs.Fields.{number_at}
 use Rattle.msrp_trace.specs.Rows.{ahead_told, job_told, lacks_name, lacks_number, res_told, task_told}
 use Rattle.msrp_trace.specs.declared.faults.TraceError.{TraceError}

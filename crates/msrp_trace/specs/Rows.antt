@@ -1,5 +1,5 @@
 -- The row that a record tells, or the first rule that the record breaks.
-use Rattle.msrp_plan.specs.Common.{◌≡◌, ℕ, Bool, true, false, not, List, [], ◌∷◌, length, map, Option, Some, None, is_none, option_map, unwrap_or, ◌==◌, ◌&&◌, ◌||◌, if◌then◌else◌, option_and_then, bytes_eq, name_position, PlanModel, has_shape, may_carry}
+use Rattle.msrp_plan.specs.Common.{ℕ, Bool, true, false, not, List, [], length, map, Option, Some, None, is_none, option_map, unwrap_or, option_and_then, bytes_eq, name_position, PlanModel, has_shape, may_carry}
 use Rattle.msrp_plan.specs.Words.{kind_text}
 use Rattle.msrp_plan.specs.declared.ids.JobId.{JobId}
 use Rattle.msrp_plan.specs.declared.ids.ResId.{ResId}
@@ -7,7 +7,7 @@ use Rattle.msrp_plan.specs.declared.rows.Kind.{Kind}
 use Rattle.msrp_plan.specs.declared.rows.Row.{Row}
 use Rattle.msrp_plan.specs.declared.rows.TextVersion.{TextVersion}
 use Rattle.msrp_plan.specs.declared.rows.TextVersion.TheVariants.{V1, V2}
-use Rattle.std.specs.Prelude.{refl}
+use Rattle.std.specs.Prelude.{◌≡◌, ◌∷◌, ◌==◌, ◌&&◌, ◌||◌, if◌then◌else◌, refl}
 use Rattle.std.specs.List.{find}
 use Rattle.csv.specs.Records.{field_at}
 use Rattle.msrp_plan.specs.declared.ids.TaskId.{TaskId}

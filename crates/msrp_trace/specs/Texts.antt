@@ -1,5 +1,6 @@
 -- The texts of the cores' rows that a caller keeps.
-use Rattle.msrp_plan.specs.Common.{ℕ, List, [], ◌%◌, slice_index_or, map, All, PlanModel}
+use Rattle.std.specs.Prelude.{◌%◌}
+use Rattle.msrp_plan.specs.Common.{ℕ, List, [], slice_index_or, map, All, PlanModel}
 use Rattle.msrp_plan.specs.declared.rows.TextVersion.{TextVersion}
 use Rattle.msrp_trace.specs.Lines.{AreResTexts, IsCoreText}
 use Rattle.msrp_trace.specs.declared.line.CoreText.{CoreText}

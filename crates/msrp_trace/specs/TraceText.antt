@@ -1,5 +1,6 @@
 -- A trace as text: a record of the version and the plan's numbers, and then one for each row.
-use Rattle.msrp_plan.specs.Common.{ℕ, Bool, true, ◌&&◌, nat_lt, List, [], ◌∷◌, ◌++◌, length, slice_index_or, codes, decimal, Option, Some, None, flat_map, PlanModel, task_of}
+use Rattle.std.specs.Prelude.{◌&&◌, ◌∷◌, ◌++◌}
+use Rattle.msrp_plan.specs.Common.{ℕ, Bool, true, nat_lt, List, [], length, slice_index_or, codes, decimal, Option, Some, None, flat_map, PlanModel, task_of}
 use Rattle.msrp_plan.specs.Words.{kind_text}
 use Rattle.msrp_plan.specs.declared.ids.JobId.{JobId}
 use Rattle.msrp_plan.specs.declared.ids.ResId.{ResId}

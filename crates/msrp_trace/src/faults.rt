@@ -1,5 +1,5 @@
 //! Why a trace's text is refused.
-ghost use Rattle.msrp_plan.specs.Common.{◌≡◌};
+ghost use Rattle.std.specs.Prelude.{◌≡◌};
 ghost use Rattle.msrp_trace.specs.Codes.{code_of};
 
 use thiserror::Error;

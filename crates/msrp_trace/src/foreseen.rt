@@ -1,5 +1,6 @@
 //! Rows that a caller foresees, as the texts that would tell them.
-ghost use Rattle.msrp_plan.specs.Common.{ℕ, List, ◌+◌, ◌<◌, ◌^◌, ◌%◌, false, slice_index, slice_index_or, ◌≡◌, ◌≤◌, ◌++◌, [], codes, decimal, length, take, option_map, true, Some, All, flat_map, in_tick, PlanModel};
+ghost use Rattle.std.specs.Prelude.{◌+◌, ◌<◌, ◌^◌, ◌%◌, ◌≡◌, ◌≤◌, ◌++◌};
+ghost use Rattle.msrp_plan.specs.Common.{ℕ, List, false, slice_index, slice_index_or, [], codes, decimal, length, take, option_map, true, Some, All, flat_map, in_tick, PlanModel};
 ghost use Rattle.msrp_plan.specs.declared.rows.TextVersion.{TextVersion};
 ghost use Rattle.std.specs.Option.{IfSome};
 ghost use Rattle.msrp_trace.specs.Gathering.{after_tick};

@@ -1,5 +1,6 @@
 //! What a row may name, guessed.
-ghost use Rattle.msrp_plan.specs.Common.{◌≡◌, ◌<◌, most_cores};
+ghost use Rattle.std.specs.Prelude.{◌≡◌, ◌<◌};
+ghost use Rattle.msrp_plan.specs.Common.{most_cores};
 ghost use Rattle.std.specs.Option.{IfSome};
 
 use msrp_plan::limits::MOST_CORES;

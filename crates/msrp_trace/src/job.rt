@@ -1,5 +1,6 @@
 //! The text of a job, which stands in the records of all its rows.
-ghost use Rattle.msrp_plan.specs.Common.{◌≡◌, ◌<◌, ◌≤◌, ◌++◌, [], decimal, length, true, Some, None, task_at};
+ghost use Rattle.std.specs.Prelude.{◌≡◌, ◌<◌, ◌≤◌, ◌++◌};
+ghost use Rattle.msrp_plan.specs.Common.{[], decimal, length, true, Some, None, task_at};
 ghost use Rattle.msrp_trace.specs.Gathering.{next_field};
 ghost use Rattle.msrp_trace.specs.Lines.{IsJobText, job_fields};
 

@@ -1,5 +1,6 @@
 //! Laws over the definitions: the text of rows, read again, and two codes. Each function does nothing; its contract is the law.
-ghost use Rattle.msrp_plan.specs.Common.{◌≡◌, List, map, None, true, list_all, carries_ahead, PlanModel, IsRunStart, IsPlan};
+ghost use Rattle.std.specs.Prelude.{◌≡◌};
+ghost use Rattle.msrp_plan.specs.Common.{List, map, None, true, list_all, carries_ahead, PlanModel, IsRunStart, IsPlan};
 ghost use Rattle.msrp_plan.specs.declared.rows.Row.{Row};
 ghost use Rattle.msrp_plan.specs.declared.rows.TextVersion.{TextVersion};
 ghost use Rattle.msrp_plan.specs.declared.rows.TextVersion.TheVariants.{V2};

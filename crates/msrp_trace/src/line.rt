@@ -1,7 +1,7 @@
 //! The text of one record as it is made, and what is kept of a core's last one.
-ghost use Rattle.msrp_plan.specs.Common.{◌≡◌, ◌≤◌, ◌<◌, ◌+◌, ◌++◌, [], codes, decimal, length, true, Some, None, option_map, flat_map, PlanModel, in_tick};
+ghost use Rattle.msrp_plan.specs.Common.{[], codes, decimal, length, true, Some, None, option_map, flat_map, PlanModel, in_tick};
 ghost use Rattle.msrp_plan.specs.Words.{kind_text};
-ghost use Rattle.std.specs.Prelude.{IsSomeAnd};
+ghost use Rattle.std.specs.Prelude.{◌≡◌, ◌≤◌, ◌<◌, ◌+◌, ◌++◌, IsSomeAnd};
 ghost use Rattle.std.specs.Option.{IfSome};
 ghost use Rattle.msrp_trace.specs.Gathering.{next_field, after_tick};
 ghost use Rattle.msrp_trace.specs.Lines.{AreResTexts, IsCoreText, IsJobText, IsLine, IsWhole, is_same_place, job_fields};

@@ -1,5 +1,6 @@
 //! Text that is gathered and then written, some kilobytes at a time.
-ghost use Rattle.msrp_plan.specs.Common.{◌≡◌, ◌≤◌, ◌+◌, ◌++◌, [], length, Wrote};
+ghost use Rattle.std.specs.Prelude.{◌≡◌, ◌≤◌, ◌+◌, ◌++◌};
+ghost use Rattle.msrp_plan.specs.Common.{[], length, Wrote};
 ghost use Rattle.msrp_trace.specs.Gathering.{Gathers};
 
 use crate::text::Text;

@@ -1,6 +1,7 @@
 //! Trace text, read.
 ghost use Rattle.std.proofs.Props.{props};
-ghost use Rattle.msrp_plan.specs.Common.{flat_map, ◌+◌, ◌++◌, ◌^◌, ◌<◌, ◌≤◌, [], length, IsSome, ◌≡◌, ◌⊎◌, ◌↔◌, decimal, ℕ, List, Some, None, Ok, Err, IfOk, IfErr, OnOk, OnErr, true, false, source_failed, source_remaining, IsPlan};
+ghost use Rattle.std.specs.Prelude.{◌+◌, ◌++◌, ◌^◌, ◌<◌, ◌≤◌, ◌≡◌, ◌⊎◌, ◌↔◌};
+ghost use Rattle.msrp_plan.specs.Common.{flat_map, [], length, IsSome, decimal, ℕ, List, Some, None, Ok, Err, IfOk, IfErr, OnOk, OnErr, true, false, source_failed, source_remaining, IsPlan};
 ghost use Rattle.std.specs.Option.{IfSome};
 ghost use Rattle.csv.specs.Records.{fields_of};
 ghost use Rattle.msrp_text.specs.Plain.{BeginsWithDigit};

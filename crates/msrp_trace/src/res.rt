@@ -1,5 +1,6 @@
 //! The text of a resource, which stands in the records of the rows on it.
-ghost use Rattle.msrp_plan.specs.Common.{◌≡◌, ◌<◌, ◌≤◌, length, true, Some, None, PlanModel};
+ghost use Rattle.std.specs.Prelude.{◌≡◌, ◌<◌, ◌≤◌};
+ghost use Rattle.msrp_plan.specs.Common.{length, true, Some, None, PlanModel};
 ghost use Rattle.msrp_trace.specs.Gathering.{next_field};
 ghost use Rattle.msrp_trace.specs.Lines.{AreResTexts, IsResText};
 ghost use Rattle.msrp_trace.specs.TraceText.{res_text};

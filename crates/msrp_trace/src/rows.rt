@@ -1,5 +1,6 @@
 //! The row that a record tells.
-ghost use Rattle.msrp_plan.specs.Common.{◌≡◌, true, has_shape, may_carry};
+ghost use Rattle.std.specs.Prelude.{◌≡◌};
+ghost use Rattle.msrp_plan.specs.Common.{true, has_shape, may_carry};
 ghost use Rattle.csv.specs.Records.{fields_of};
 ghost use Rattle.msrp_text.specs.Fields.{number_at, number_of};
 ghost use Rattle.msrp_trace.specs.RowParts.{Reads, names_told, numbers_told};

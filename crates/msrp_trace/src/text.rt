@@ -1,5 +1,6 @@
 //! Text in an array of its own, which is copied whole.
-ghost use Rattle.msrp_plan.specs.Common.{ℕ, ◌≡◌, ◌≤◌, ◌<◌, ◌+◌, ◌-◌, ◌++◌, ◌∷◌, [], decimal, length, slice_index, take};
+ghost use Rattle.std.specs.Prelude.{◌≡◌, ◌≤◌, ◌<◌, ◌+◌, ◌-◌, ◌++◌, ◌∷◌};
+ghost use Rattle.msrp_plan.specs.Common.{ℕ, [], decimal, length, slice_index, take};
 ghost use Rattle.msrp_trace.specs.Gathering.{next_field};
 
 use itoa::Buffer;

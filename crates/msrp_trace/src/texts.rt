@@ -1,5 +1,6 @@
 //! The texts of the cores' rows, kept as long as the cores do the same.
-ghost use Rattle.msrp_plan.specs.Common.{All, ◌≡◌, ◌≤◌, ◌<◌, ◌%◌, ℕ, [], None, length, slice_index_or, slice_set, take, true};
+ghost use Rattle.std.specs.Prelude.{◌≡◌, ◌≤◌, ◌<◌, ◌%◌};
+ghost use Rattle.msrp_plan.specs.Common.{All, ℕ, [], None, length, slice_index_or, slice_set, take, true};
 ghost use Rattle.msrp_trace.specs.Gathering.{after_tick};
 ghost use Rattle.msrp_trace.specs.Lines.{AreResTexts, IsCoreText};
 ghost use Rattle.msrp_trace.specs.Texts.{text_of_core, texts_of};

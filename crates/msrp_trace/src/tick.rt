@@ -1,5 +1,6 @@
 //! The text of a tick, which stands in the records of all cores.
-ghost use Rattle.msrp_plan.specs.Common.{◌≡◌, decimal, true};
+ghost use Rattle.std.specs.Prelude.{◌≡◌};
+ghost use Rattle.msrp_plan.specs.Common.{decimal, true};
 
 use crate::text::Text;
 

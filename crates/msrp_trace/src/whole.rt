@@ -1,5 +1,6 @@
 //! Rows that are read back from their text as they are.
-ghost use Rattle.msrp_plan.specs.Common.{◌≡◌, IsPlan};
+ghost use Rattle.std.specs.Prelude.{◌≡◌};
+ghost use Rattle.msrp_plan.specs.Common.{IsPlan};
 ghost use Rattle.msrp_trace.specs.Laws.{has_short_ahead, has_short_job, has_short_numbers, has_told_ahead, is_short, is_told_whole};
 
 use crate::writing::is_named;

@@ -1,5 +1,6 @@
 //! The words of trace text.
-ghost use Rattle.msrp_plan.specs.Common.{◌≡◌, ◌≤◌, length};
+ghost use Rattle.std.specs.Prelude.{◌≡◌, ◌≤◌};
+ghost use Rattle.msrp_plan.specs.Common.{length};
 ghost use Rattle.msrp_trace.specs.Rows.{kind_named};
 ghost use Rattle.msrp_text.specs.PlanText.{version_text};
 

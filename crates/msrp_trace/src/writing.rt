@@ -1,5 +1,6 @@
 //! Trace text, written.
-ghost use Rattle.msrp_plan.specs.Common.{◌≡◌, ◌<◌, ◌++◌, [], decimal, length, slice_index_or, true, false, OnOk, OnErr, All, list_all, carries_ahead, Wrote, sink_failed};
+ghost use Rattle.std.specs.Prelude.{◌≡◌, ◌<◌, ◌++◌};
+ghost use Rattle.msrp_plan.specs.Common.{[], decimal, length, slice_index_or, true, false, OnOk, OnErr, All, list_all, carries_ahead, Wrote, sink_failed};
 ghost use Rattle.msrp_trace.specs.Gathering.{Gathers, after_tick};
 ghost use Rattle.msrp_trace.specs.Laws.{is_told_whole};
 ghost use Rattle.msrp_trace.specs.Lines.{AreResTexts, IsLine, IsWhole};

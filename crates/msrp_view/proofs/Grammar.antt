@@ -1,6 +1,6 @@
 -- What the parser was told, and what is made of what it found.
-use Rattle.msrp_plan.proofs.Common.{◌≡◌, ◌∙◌, ◌⊎◌, ◌&&◌, ◌<◌, ◌^◌, ℕ, true, false, List, [], ◌∷◌, length, Option, Some, None, Result, Ok, Err, IfErr, ok_or, refl, ap, sym, inl, inr, codes, is_ascii_digit, list_all, cases_Bool, cases_lt, le-ltb, lt-ltb}
-use Rattle.std.proofs.Common.{OkIff, MatchResult}
+use Rattle.msrp_plan.proofs.Common.{ℕ, true, false, List, [], length, Option, Some, None, Result, Ok, Err, IfErr, ok_or, refl, ap, sym, inl, inr, codes, is_ascii_digit, list_all, cases_Bool, cases_lt, le-ltb, lt-ltb}
+use Rattle.std.proofs.Common.{◌≡◌, ◌∙◌, ◌⊎◌, ◌&&◌, ◌<◌, ◌^◌, ◌∷◌, OkIff, MatchResult}
 use Rattle.std.specs.Borrow.{Bor}
 use Rattle.std.specs.Str.{all_ascii_digits}
 use Rattle.std.specs.Str.Parse.{ParsesUnsigned, digits_value}

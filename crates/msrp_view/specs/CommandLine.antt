@@ -1,6 +1,6 @@
 -- The words that the program takes, as the parser is told of them, and what is answered.
-use Rattle.msrp_plan.specs.Common.{◌≡◌, ◌&&◌, ◌||◌, ℕ, ◌^◌, Bool, true, false, nat_lt, length, List, [], ◌∷◌, Option, Some, None, codes, option_map, if◌then◌else◌, Ok, Err, IsOkAnd, is_ascii_digit, list_all}
-use Rattle.std.specs.Prelude.{Result}
+use Rattle.msrp_plan.specs.Common.{ℕ, Bool, true, false, nat_lt, length, List, [], Option, Some, None, codes, option_map, Ok, Err, IsOkAnd, is_ascii_digit, list_all}
+use Rattle.std.specs.Prelude.{◌≡◌, ◌&&◌, ◌||◌, ◌^◌, ◌∷◌, if◌then◌else◌, Result}
 use Rattle.std.specs.Str.Parse.{digits_value}
 use Rattle.clap.specs.Words.{App, IsAmong, Kinds, Row, Rule, Text, app_of, first_of, new_app, new_rule, with_rule}
 use Rattle.clap.specs.declared.builder.command.Command.{Command}

@@ -1,5 +1,6 @@
 -- What is written of the version.
-use Rattle.msrp_plan.specs.Common.{ℕ, List, ◌++◌, codes}
+use Rattle.std.specs.Prelude.{◌++◌}
+use Rattle.msrp_plan.specs.Common.{ℕ, List, codes}
 
 -- the program and its version, and what a release tells of itself
 abbrev pub version_text : List ℕ → List ℕ

@@ -1,6 +1,7 @@
 //! The command line: the words of a command, and what they ask for.
 
-ghost use Rattle.msrp_plan.specs.Common.{◌≡◌, ◌⊎◌, false, map, ok_or, option_map, string_bytes, Err, IfErr, IfOk, Some, is_ascii_digit, list_all};
+ghost use Rattle.std.specs.Prelude.{◌≡◌, ◌⊎◌};
+ghost use Rattle.msrp_plan.specs.Common.{false, map, ok_or, option_map, string_bytes, Err, IfErr, IfOk, Some, is_ascii_digit, list_all};
 ghost use Rattle.clap.specs.Words.{fault_of, found_of, matches_of, rows_of, rule_of};
 ghost use Rattle.msrp_view.specs.CommandLine as line;
 ghost use Rattle.msrp_view.specs.CommandLine.{IsAnswered, IsDrawn, IsExplained, IsExported, IsShown, IsTold, Takes};

@@ -1,5 +1,6 @@
 //! What `--version` writes.
-ghost use Rattle.msrp_plan.specs.Common.{◌≡◌, Wrote};
+ghost use Rattle.std.specs.Prelude.{◌≡◌};
+ghost use Rattle.msrp_plan.specs.Common.{Wrote};
 ghost use Rattle.msrp_faults.specs.Outcomes.{written_status};
 ghost use Rattle.msrp_view.specs.Version.{version_text};
 

@@ -1,5 +1,6 @@
 -- What is found in rows that are judged as they come, with the cause of a fault or the refusal behind them, and the words on it.
-use Rattle.msrp_plan.proofs.Common.{◌≡◌, ◌⊎◌, ◌+◌, ◌++◌, ◌∷◌, [], ℕ, true, List, Option, Some, None, IfOk, IfErr, refl, ap, sym, subst, ◌∙◌, inl, inr, append_assoc, same_Some, ⊤, IfSome, option_or, PlanModel, fault_in, missing, verdict}
+use Rattle.std.proofs.Common.{◌≡◌, ◌⊎◌, ◌+◌, ◌++◌, ◌∷◌, ◌∙◌}
+use Rattle.msrp_plan.proofs.Common.{[], ℕ, true, List, Option, Some, None, IfOk, IfErr, refl, ap, sym, subst, inl, inr, append_assoc, same_Some, ⊤, IfSome, option_or, PlanModel, fault_in, missing, verdict}
 use Rattle.msrp_plan.specs.declared.faults.Fault.{Fault}
 use Rattle.msrp_plan.specs.declared.rows.Row.{Row}
 use Rattle.msrp_plan.specs.declared.rows.TextVersion.{TextVersion}

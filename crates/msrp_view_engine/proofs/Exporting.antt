@@ -1,5 +1,6 @@
 -- The text of a trace for another tool, as it was written row by row.
-use Rattle.msrp_plan.proofs.Common.{◌≡◌, ℕ, ◌+◌, ◌-◌, ◌*◌, ◌≤◌, ◌<◌, ◌^◌, cond, Bool, true, false, nat_lt, List, [], ◌∷◌, ◌++◌, Option, Some, None, refl, ap, sym, ◌∙◌, arith, length, take, append_assoc, ⊤, slice_get, option_or, take-append_seam, take-length, slice_get_past, PlanModel, fault_in, fault_or, missing, refused, verdict, IsPlan, fault_push}
+use Rattle.std.proofs.Common.{◌≡◌, ◌+◌, ◌-◌, ◌*◌, ◌≤◌, ◌<◌, ◌^◌, ◌∷◌, ◌++◌, ◌∙◌}
+use Rattle.msrp_plan.proofs.Common.{ℕ, cond, Bool, true, false, nat_lt, List, [], Option, Some, None, refl, ap, sym, arith, length, take, append_assoc, ⊤, slice_get, option_or, take-append_seam, take-length, slice_get_past, PlanModel, fault_in, fault_or, missing, refused, verdict, IsPlan, fault_push}
 use Rattle.msrp_plan.specs.declared.faults.Fault.{Fault}
 use Rattle.msrp_plan.specs.declared.faults.Rule.{Rule}
 use Rattle.msrp_plan.specs.declared.faults.Rule.TheVariants.{A6}

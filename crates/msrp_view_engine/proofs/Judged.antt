@@ -1,5 +1,6 @@
 -- A row that was judged: what was read with it, and the rule that it breaks.
-use Rattle.msrp_plan.proofs.Common.{◌≡◌, ◌++◌, ◌∷◌, [], ℕ, List, Option, Some, ap, subst, ◌∙◌, PlanModel, fault_in}
+use Rattle.std.proofs.Common.{◌≡◌, ◌++◌, ◌∷◌, ◌∙◌}
+use Rattle.msrp_plan.proofs.Common.{[], ℕ, List, Option, Some, ap, subst, PlanModel, fault_in}
 use Rattle.msrp_plan.specs.declared.faults.Fault.{Fault}
 use Rattle.msrp_plan.specs.declared.rows.Row.{Row}
 use Rattle.std.specs.declared.result.Result.{Result}

@@ -1,5 +1,6 @@
 -- A picture that is written as it was made in memory.
-use Rattle.msrp_plan.proofs.Common.{◌≡◌, ◌⊎◌, ℕ, List, Option, None, Some, Result, Ok, Err, ap, subst, ◌∙◌, inl, inr, Wrote, PlanModel, verdict}
+use Rattle.std.proofs.Common.{◌≡◌, ◌⊎◌, ◌∙◌}
+use Rattle.msrp_plan.proofs.Common.{ℕ, List, Option, None, Some, Result, Ok, Err, ap, subst, inl, inr, Wrote, PlanModel, verdict}
 use Rattle.msrp_plan.specs.declared.bytes.Sink.{Sink}
 use Rattle.msrp_plan.specs.declared.rows.Row.{Row}
 use Rattle.msrp_audit.specs.Audits.{answer_of}

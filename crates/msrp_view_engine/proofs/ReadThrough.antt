@@ -1,5 +1,6 @@
 -- A trace's text that is read to its end.
-use Rattle.msrp_plan.proofs.Common.{◌≡◌, [], ℕ, List, Option, None, Some, Result, Ok, Err, ap, sym, ◌∙◌, inl, inr, PlanModel}
+use Rattle.std.proofs.Common.{◌≡◌, ◌∙◌}
+use Rattle.msrp_plan.proofs.Common.{[], ℕ, List, Option, None, Some, Result, Ok, Err, ap, sym, inl, inr, PlanModel}
 use Rattle.msrp_plan.specs.declared.rows.Row.{Row}
 use Rattle.msrp_plan.specs.declared.traces.Trace.{Trace}
 use Rattle.msrp_trace.specs.Reading.{Told, rows_of}

@@ -1,5 +1,6 @@
 -- The records of a text, read again up to one of them.
-use Rattle.msrp_plan.proofs.Common.{◌≡◌, ◌∙◌, ℕ, ◌+◌, ◌≤◌, List, [], ◌∷◌, ◌++◌, length, drop, take, sym, ap, arith, length-drop, inl, inr, slice_index_or, cases_lt, drop_more, get_or_past, take_all, take_more}
+use Rattle.std.proofs.Common.{◌≡◌, ◌∙◌, ◌+◌, ◌≤◌, ◌∷◌, ◌++◌}
+use Rattle.msrp_plan.proofs.Common.{ℕ, List, [], length, drop, take, sym, ap, arith, length-drop, inl, inr, slice_index_or, cases_lt, drop_more, get_or_past, take_all, take_more}
 
 -- the record that is next, and what is left behind it
 pub next-is : (records : List (List (List ℕ))) (n : ℕ) (row : List (List ℕ)) (rest : List (List (List ℕ))) → drop n records ≡ row ∷ rest → (row ≡ slice_index_or records n []) × (rest ≡ drop (n + 1) records)

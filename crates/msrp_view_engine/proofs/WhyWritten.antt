@@ -1,5 +1,6 @@
 -- Words on a trace that are written as they were made in memory.
-use Rattle.msrp_plan.proofs.Common.{◌≡◌, ℕ, List, Option, Result, Ok, Err, refl, ap, subst, ◌∙◌, inl, inr, ⊤, Wrote, PlanModel}
+use Rattle.std.proofs.Common.{◌≡◌, ◌∙◌}
+use Rattle.msrp_plan.proofs.Common.{ℕ, List, Option, Result, Ok, Err, refl, ap, subst, inl, inr, ⊤, Wrote, PlanModel}
 use Rattle.msrp_plan.specs.declared.bytes.Sink.{Sink}
 use Rattle.msrp_plan.specs.declared.faults.Fault.{Fault}
 use Rattle.msrp_text.specs.Reading.{csv_records}

@@ -1,5 +1,6 @@
 -- What an engine answers where its readers tell their bytes, as `OfText` and `OfTexts` say it, of the bytes of a trace in place of its records.
-use Rattle.msrp_plan.specs.Common.{◌≡◌, ℕ, List, Option, Some, Result, source_remaining, PlanModel}
+use Rattle.std.specs.Prelude.{◌≡◌}
+use Rattle.msrp_plan.specs.Common.{ℕ, List, Option, Some, Result, source_remaining, PlanModel}
 use Rattle.msrp_plan.specs.declared.bytes.Source.{Source}
 use Rattle.msrp_text.specs.Reading.{csv_records, plan_of}
 use Rattle.msrp_text.specs.declared.reading.TextError.{TextError}

@@ -1,5 +1,6 @@
 -- What is written and answered where words on a plan are asked for.
-use Rattle.msrp_plan.specs.Common.{◌≡◌, ℕ, ◌-◌, List, Option, Some, None, Ok, Err, take, Result, Wrote, code_of, PlanModel}
+use Rattle.std.specs.Prelude.{◌≡◌, ◌-◌}
+use Rattle.msrp_plan.specs.Common.{ℕ, List, Option, Some, None, Ok, Err, take, Result, Wrote, code_of, PlanModel}
 use Rattle.msrp_plan.specs.declared.bytes.Sink.{Sink}
 use Rattle.msrp_plan.specs.declared.faults.PlanFault.{PlanFault}
 use Rattle.msrp_advice.specs.Refusals.{refusal_text}

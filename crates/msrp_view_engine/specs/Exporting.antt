@@ -1,5 +1,6 @@
 -- What is written of a trace's text for another tool, in a format.
-use Rattle.msrp_plan.specs.Common.{◌≡◌, ℕ, List, Option, None, Ok, Err, ⊤, Result, Wrote, PlanModel}
+use Rattle.std.specs.Prelude.{◌≡◌}
+use Rattle.msrp_plan.specs.Common.{ℕ, List, Option, None, Ok, Err, ⊤, Result, Wrote, PlanModel}
 use Rattle.msrp_plan.specs.declared.bytes.Sink.{Sink}
 use Rattle.msrp_plan.specs.declared.faults.Fault.{Fault}
 use Rattle.msrp_plan.specs.declared.rows.Row.{Row}

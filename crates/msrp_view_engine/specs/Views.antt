@@ -1,5 +1,6 @@
 -- What the picture of a trace's text is.
-use Rattle.msrp_plan.specs.Common.{◌≡◌, ℕ, List, Option, Some, None, Ok, Err, IfOk, ⊤, Result, Wrote, PlanModel, verdict}
+use Rattle.std.specs.Prelude.{◌≡◌}
+use Rattle.msrp_plan.specs.Common.{ℕ, List, Option, Some, None, Ok, Err, IfOk, ⊤, Result, Wrote, PlanModel, verdict}
 use Rattle.msrp_plan.specs.declared.bytes.Sink.{Sink}
 use Rattle.msrp_plan.specs.declared.faults.Fault.{Fault}
 use Rattle.msrp_plan.specs.declared.rows.Row.{Row}

@@ -1,5 +1,6 @@
 -- Why a trace is no legal run: what is found, and what is written of it.
-use Rattle.msrp_plan.specs.Common.{◌≡◌, ◌⊎◌, ◌+◌, ◌-◌, ℕ, List, [], ◌++◌, Option, Some, Ok, Err, IfOk, IfSome, IsOkAnd, ⊤, Result, Wrote, PlanModel, verdict_text}
+use Rattle.std.specs.Prelude.{◌≡◌, ◌⊎◌, ◌+◌, ◌-◌, ◌++◌}
+use Rattle.msrp_plan.specs.Common.{ℕ, List, [], Option, Some, Ok, Err, IfOk, IfSome, IsOkAnd, ⊤, Result, Wrote, PlanModel, verdict_text}
 use Rattle.msrp_plan.specs.declared.bytes.Sink.{Sink}
 use Rattle.msrp_plan.specs.declared.faults.Fault.{Fault}
 use Rattle.msrp_plan.specs.declared.rows.Row.{Row}

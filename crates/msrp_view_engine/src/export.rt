@@ -1,5 +1,6 @@
 //! A trace in the format of another tool.
-ghost use Rattle.msrp_plan.specs.Common.{◌≡◌, ◌⊎◌, ◌+◌, ◌<◌, ◌^◌, ℕ, List, [], length, true, Some, Err, IfOk, IfErr, Wrote, source_remaining};
+ghost use Rattle.std.specs.Prelude.{◌≡◌, ◌⊎◌, ◌+◌, ◌<◌, ◌^◌};
+ghost use Rattle.msrp_plan.specs.Common.{ℕ, List, [], length, true, Some, Err, IfOk, IfErr, Wrote, source_remaining};
 ghost use Rattle.msrp_audit.specs.Audits.{HasFed};
 ghost use Rattle.msrp_plan.specs.declared.rows.Row.{Row as TraceRow};
 ghost use Rattle.msrp_text.specs.Reading.{csv_records};

@@ -1,5 +1,6 @@
 //! The rows of a trace's text.
-ghost use Rattle.msrp_plan.specs.Common.{◌≡◌, ℕ, List, [], Some, IfErr, true, source_remaining};
+ghost use Rattle.std.specs.Prelude.{◌≡◌};
+ghost use Rattle.msrp_plan.specs.Common.{ℕ, List, [], Some, IfErr, true, source_remaining};
 ghost use Rattle.msrp_text.specs.Records.{csv_records};
 ghost use Rattle.msrp_trace.specs.Reading.{Told, rows_of};
 ghost use Rattle.msrp_trace.specs.Readers.{told_left};

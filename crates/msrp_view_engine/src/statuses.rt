@@ -1,5 +1,5 @@
 //! What is answered to what is found in a trace.
-ghost use Rattle.msrp_plan.specs.Common.{◌≡◌};
+ghost use Rattle.std.specs.Prelude.{◌≡◌};
 ghost use Rattle.msrp_view_engine.specs.Statuses.{answer_to};
 
 use msrp_engine::CliFault;

@@ -1,6 +1,7 @@
 //! The picture of a trace's text.
 
-ghost use Rattle.msrp_plan.specs.Common.{◌≡◌, ◌⊎◌, true, Ok, Err, IfOk, IfErr, verdict};
+ghost use Rattle.std.specs.Prelude.{◌≡◌, ◌⊎◌};
+ghost use Rattle.msrp_plan.specs.Common.{true, Ok, Err, IfOk, IfErr, verdict};
 ghost use Rattle.msrp_audit.specs.Audits.{answer_of};
 ghost use Rattle.msrp_faults.specs.Outcomes.{is_trace_fault, is_view_fault};
 ghost use Rattle.msrp_picture.specs.Windows.{IsWindow};

@@ -1,5 +1,6 @@
 //! Why a trace is no legal run: the verdict, the row that breaks a rule, and what was due.
-ghost use Rattle.msrp_plan.specs.Common.{◌≡◌, ◌⊎◌, ◌+◌, ℕ, List, [], true, Ok, Some, Err, IfOk, IfErr, IfSome, Wrote};
+ghost use Rattle.std.specs.Prelude.{◌≡◌, ◌⊎◌, ◌+◌};
+ghost use Rattle.msrp_plan.specs.Common.{ℕ, List, [], true, Ok, Some, Err, IfOk, IfErr, IfSome, Wrote};
 ghost use Rattle.csv.specs.Records.{fields_of};
 ghost use Rattle.msrp_audit.specs.Audits.{HasFed};
 ghost use Rattle.msrp_text.specs.Lines.{BeginsIn};

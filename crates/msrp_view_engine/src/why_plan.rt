@@ -1,5 +1,6 @@
 //! Why a plan is refused, or what is odd in it, in words.
-ghost use Rattle.msrp_plan.specs.Common.{◌≡◌, ◌⊎◌, ◌-◌, ℕ, List, [], true, false, Ok, Some, Err, map, take, IfOk, IfErr, OnOk, if◌then◌else◌, Wrote, source_failed, source_remaining, code_of};
+ghost use Rattle.std.specs.Prelude.{◌≡◌, ◌⊎◌, ◌-◌, if◌then◌else◌};
+ghost use Rattle.msrp_plan.specs.Common.{ℕ, List, [], true, false, Ok, Some, Err, map, take, IfOk, IfErr, OnOk, Wrote, source_failed, source_remaining, code_of};
 ghost use Rattle.csv.specs.Records.{fields_of};
 ghost use Rattle.msrp_advice.specs.Refusals.{refusal_text};
 ghost use Rattle.msrp_advice.specs.Warnings.{accepted_text};

@@ -1,10 +1,10 @@
 -- The cause of a fault, from what the auditor tells.
-use Rattle.msrp_plan.proofs.Common.{◌≡◌, ℕ, ◌+◌, ◌*◌, ◌/◌, ◌<◌, ◌≤◌, ◌++◌, ◌∷◌, [], Bool, true, false, cond, nat_lt, List, Option, Some, None, length, refl, ap, sym, ◌∙◌, subst, arith, append-nil, append_assoc, length-append, range_with_len, IsSomeAnd, filter-append, log_of, PlanModel, IsLegal, IsRunStart, EachAfter, is_chosen, is_fifo_reply, is_in_turn, is_next_action, is_of_core, broken, fault_in, fault_or, refused, IsPlan, fault_push, unbroken_is_legal, range_more, turns_when_due}
+use Rattle.msrp_plan.proofs.Common.{ℕ, [], Bool, true, false, cond, nat_lt, List, Option, Some, None, length, refl, ap, sym, subst, arith, append-nil, append_assoc, length-append, range_with_len, IsSomeAnd, filter-append, log_of, PlanModel, IsLegal, IsRunStart, EachAfter, is_chosen, is_fifo_reply, is_in_turn, is_next_action, is_of_core, broken, fault_in, fault_or, refused, IsPlan, fault_push, unbroken_is_legal, range_more, turns_when_due}
 use Rattle.msrp_plan.specs.declared.faults.Fault.{Fault}
 use Rattle.msrp_plan.specs.declared.faults.Rule.{Rule}
 use Rattle.msrp_plan.specs.declared.faults.Rule.TheVariants.{A1, A2, A3, A4, A5, A6, A7}
 use Rattle.msrp_plan.specs.declared.rows.Row.{Row}
-use Rattle.std.proofs.Common.{ltb-true, filter}
+use Rattle.std.proofs.Common.{◌≡◌, ◌+◌, ◌*◌, ◌/◌, ◌<◌, ◌≤◌, ◌++◌, ◌∷◌, ◌∙◌, ltb-true, filter}
 use Rattle.msrp_core.specs.CoreStates.{IsCoreState}
 use Rattle.msrp_core.specs.declared.states.CoreState.{CoreState}
 use Rattle.msrp_plan.specs.Verdict.{fault_from}

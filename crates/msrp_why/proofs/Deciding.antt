@@ -1,5 +1,6 @@
 -- What is noted of a core, one row more.
-use Rattle.msrp_plan.proofs.Common.{◌≡◌, ◌≢◌, ℕ, ◌+◌, ◌<◌, ◌≤◌, ◌==◌, ◌&&◌, Bool, true, false, not, List, [], ◌∷◌, ◌++◌, Option, Some, None, refl, ap, sym, ◌∙◌, subst, arith, length, length-append, slice_get, slice_set, Contains, ForSome, IsSomeAnd, eqb-false, false_from_ne_true, same_Some, length-set, All-contains, All-from_recursion, is_before, done, is_finished, is_released, is_row_of, is_started, jobs_on, log_of, PlanModel, core_of, release, units, IsLegal, IsRunStart, JobState, state_after, IsPlan, core_jobs_below, is_job_is, same_self, IsTurn, legal_turn, turn_core, all_weaker, places_push, least_in, each_at, each_before, log_other, log_own}
+use Rattle.std.proofs.Common.{◌≡◌, ◌≢◌, ◌+◌, ◌<◌, ◌≤◌, ◌==◌, ◌&&◌, ◌∷◌, ◌++◌, ◌∙◌}
+use Rattle.msrp_plan.proofs.Common.{ℕ, Bool, true, false, not, List, [], Option, Some, None, refl, ap, sym, subst, arith, length, length-append, slice_get, slice_set, Contains, ForSome, IsSomeAnd, eqb-false, false_from_ne_true, same_Some, length-set, All-contains, All-from_recursion, is_before, done, is_finished, is_released, is_row_of, is_started, jobs_on, log_of, PlanModel, core_of, release, units, IsLegal, IsRunStart, JobState, state_after, IsPlan, core_jobs_below, is_job_is, same_self, IsTurn, legal_turn, turn_core, all_weaker, places_push, least_in, each_at, each_before, log_other, log_own}
 use Rattle.msrp_plan.specs.declared.ids.JobId.{JobId}
 use Rattle.msrp_plan.specs.declared.rows.Kind.{Kind}
 use Rattle.msrp_plan.specs.declared.rows.Kind.TheVariants.{Idle, Run, Spin}

@@ -1,8 +1,8 @@
 -- What a run exercised, one row more.
-use Rattle.msrp_plan.proofs.Common.{◌≡◌, ℕ, suc, ◌+◌, ◌*◌, max, ◌<◌, ◌≤◌, ◌&&◌, Bool, true, false, cond, not, nat_lt, List, [], ◌∷◌, ◌++◌, Option, Some, None, refl, ap, sym, ◌∙◌, subst, arith, length, length-append, append-nil, append_assoc, inl, inr, Contains, ForSome, mul-le-mul_left, and_parts, not-true, slice_get_within, All-contains, All-from_recursion, count_after, is_before, done, is_job, is_released, is_started, jobs_of, jobs_on, PlanModel, units, is_on, IsLegal, IsRunStart, IsPlan, core_jobs_below, is_job_is, same_self, IsTurn, legal_turn, turn_chosen, turn_core, least_passes}
+use Rattle.msrp_plan.proofs.Common.{ℕ, suc, max, Bool, true, false, cond, not, nat_lt, List, [], Option, Some, None, refl, ap, sym, subst, arith, length, length-append, append-nil, append_assoc, inl, inr, Contains, ForSome, mul-le-mul_left, and_parts, not-true, slice_get_within, All-contains, All-from_recursion, count_after, is_before, done, is_job, is_released, is_started, jobs_of, jobs_on, PlanModel, units, is_on, IsLegal, IsRunStart, IsPlan, core_jobs_below, is_job_is, same_self, IsTurn, legal_turn, turn_chosen, turn_core, least_passes}
 use Rattle.msrp_plan.specs.declared.ids.JobId.{JobId}
 use Rattle.msrp_plan.specs.declared.rows.Row.{Row}
-use Rattle.std.proofs.Common.{lt-ltb}
+use Rattle.std.proofs.Common.{◌≡◌, ◌+◌, ◌*◌, ◌<◌, ◌≤◌, ◌&&◌, ◌∷◌, ◌++◌, ◌∙◌, lt-ltb}
 use Rattle.std.proofs.Math.Nat.{max-zero}
 use Rattle.msrp_core.specs.CoreStates.{IsCoreState}
 use Rattle.msrp_core.specs.declared.states.CoreState.{CoreState}

@@ -1,5 +1,6 @@
 -- A local resource's last change is its holder's lock.
-use Rattle.msrp_plan.proofs.Common.{◌≡◌, ◌≢◌, ℕ, ◌+◌, Bool, true, false, cond, not, List, [], ◌∷◌, ◌++◌, Option, Some, None, refl, ap, sym, ◌∙◌, subst, arith, take, slice_get, ◌⊎◌, inl, inr, IsSomeAnd, true≢false, PlanModel, units, is_lock_of, is_unlock_of, holds_after, done, holds, is_queued, is_row_of, is_waiting, is_global, allows, is_global_unit, res_of_unit, is_on, EachAfter, IsLegal, IsRunStart, JobState, IsPlan, is_job_is, row_of_job, some_is, DoesUnit, IsTurn, idle_res, legal_turn, along, units_lock, held_unlock}
+use Rattle.std.proofs.Common.{◌≡◌, ◌≢◌, ◌+◌, ◌∷◌, ◌++◌, ◌∙◌, ◌⊎◌}
+use Rattle.msrp_plan.proofs.Common.{ℕ, Bool, true, false, cond, not, List, [], Option, Some, None, refl, ap, sym, subst, arith, take, slice_get, inl, inr, IsSomeAnd, true≢false, PlanModel, units, is_lock_of, is_unlock_of, holds_after, done, holds, is_queued, is_row_of, is_waiting, is_global, allows, is_global_unit, res_of_unit, is_on, EachAfter, IsLegal, IsRunStart, JobState, IsPlan, is_job_is, row_of_job, some_is, DoesUnit, IsTurn, idle_res, legal_turn, along, units_lock, held_unlock}
 use Rattle.msrp_plan.specs.declared.ids.JobId.{JobId}
 use Rattle.msrp_plan.specs.declared.ids.ResId.{ResId}
 use Rattle.msrp_plan.specs.declared.rows.Kind.{Kind}

@@ -1,5 +1,6 @@
 -- Texts that are written line by line.
-use Rattle.msrp_plan.proofs.Common.{◌≡◌, ℕ, ◌+◌, ◌<◌, List, [], ◌∷◌, ◌++◌, Option, ap, sym, ◌∙◌, subst, arith, append-nil, append_assoc, get_or, length, take, flat_map, range_with_len, take_more, Wrote, range_more, wrote-more}
+use Rattle.std.proofs.Common.{◌≡◌, ◌+◌, ◌<◌, ◌∷◌, ◌++◌, ◌∙◌}
+use Rattle.msrp_plan.proofs.Common.{ℕ, List, [], Option, ap, sym, subst, arith, append-nil, append_assoc, get_or, length, take, flat_map, range_with_len, take_more, Wrote, range_more, wrote-more}
 use Rattle.msrp_plan.specs.declared.bytes.Sink.{Sink}
 use Rattle.std.proofs.lemmas.List.Concat.{flat_map-append}
 

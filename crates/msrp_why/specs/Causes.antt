@@ -1,10 +1,10 @@
 -- The cause of a fault: what the definitions give of the rows before it.
-use Rattle.msrp_plan.specs.Common.{ℕ, List, [], ◌∷◌, ◌++◌, ◌/◌, Option, Some, None, ◌≡◌, ⊤, length, range_with_len, IsSomeAnd, Result, PlanModel, fault_in}
+use Rattle.msrp_plan.specs.Common.{ℕ, List, [], Option, Some, None, ⊤, length, range_with_len, IsSomeAnd, Result, PlanModel, fault_in}
 use Rattle.msrp_plan.specs.declared.faults.Fault.{Fault}
 use Rattle.msrp_plan.specs.declared.faults.Rule.{Rule}
 use Rattle.msrp_plan.specs.declared.faults.Rule.TheVariants.{A1, A2, A3, A4, A5}
 use Rattle.msrp_plan.specs.declared.rows.Row.{Row}
-use Rattle.std.specs.Prelude.{filter}
+use Rattle.std.specs.Prelude.{◌∷◌, ◌++◌, ◌/◌, ◌≡◌, filter}
 use Rattle.std.specs.declared.result.Result.TheVariants.{Err}
 use Rattle.msrp_audit.specs.Audits.{answer_of, has_turn}
 use Rattle.msrp_core.specs.CoreStates.{IsCoreState}

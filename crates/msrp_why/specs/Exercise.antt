@@ -1,5 +1,6 @@
 -- What a run exercised, in numbers of its rows: a trace in which nothing happens is legal too.
-use Rattle.msrp_plan.specs.Common.{ℕ, List, [], ◌∷◌, ◌++◌, ◌+◌, ◌^◌, ◌-◌, ◌==◌, ◌&&◌, Bool, true, false, not, nat_le, nat_lt, min, max, length, Option, Some, None, ◌≡◌, if◌then◌else◌, count_by, take, count_after, ceiling, head, running, done, is_waiting, same_job, level, PlanModel, key, units, is_on}
+use Rattle.std.specs.Prelude.{◌∷◌, ◌++◌, ◌+◌, ◌^◌, ◌-◌, ◌==◌, ◌&&◌, ◌≡◌, if◌then◌else◌}
+use Rattle.msrp_plan.specs.Common.{ℕ, List, [], Bool, true, false, not, nat_le, nat_lt, min, max, length, Option, Some, None, count_by, take, count_after, ceiling, head, running, done, is_waiting, same_job, level, PlanModel, key, units, is_on}
 use Rattle.msrp_plan.specs.declared.ids.JobId.{JobId}
 use Rattle.msrp_plan.specs.declared.rows.Kind.{Kind}
 use Rattle.msrp_plan.specs.declared.rows.Kind.TheVariants.{Grant, Lock, Queue, Take}

@@ -1,5 +1,6 @@
 -- What a run exercised, as text.
-use Rattle.msrp_plan.specs.Common.{ℕ, List, [], ◌++◌, length, codes, decimal, slice_get, Option, Some, flat_map, range_with_len, PlanModel}
+use Rattle.std.specs.Prelude.{◌++◌}
+use Rattle.msrp_plan.specs.Common.{ℕ, List, [], length, codes, decimal, slice_get, Option, Some, flat_map, range_with_len, PlanModel}
 use Rattle.msrp_why.specs.declared.exercise.ResourceCounts.{ResourceCounts}
 use Rattle.msrp_why.specs.declared.exercise.TurnCounts.{TurnCounts}
 use Rattle.msrp_why.specs.declared.notes.Notes.{Notes}

@@ -1,5 +1,6 @@
 -- Facts on a row that is refused, as text: a line each.
-use Rattle.msrp_plan.specs.Common.{ℕ, Bool, List, [], ◌++◌, ◌+◌, ◌*◌, ◌/◌, ◌&&◌, nat_lt, length, codes, decimal, Option, Some, None, if◌then◌else◌, flat_map, PlanModel, core_of, key, task_of, units, is_job, jobs_of, level}
+use Rattle.std.specs.Prelude.{◌++◌, ◌+◌, ◌*◌, ◌/◌, ◌&&◌, if◌then◌else◌}
+use Rattle.msrp_plan.specs.Common.{ℕ, Bool, List, [], nat_lt, length, codes, decimal, Option, Some, None, flat_map, PlanModel, core_of, key, task_of, units, is_job, jobs_of, level}
 use Rattle.msrp_plan.specs.declared.faults.Rule.{Rule}
 use Rattle.msrp_plan.specs.declared.faults.Rule.TheVariants.{A1, A2, A3, A4, A5, A6, A7}
 use Rattle.msrp_plan.specs.declared.ids.JobId.{JobId}

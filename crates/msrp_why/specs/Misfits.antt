@@ -1,5 +1,6 @@
 -- What is wrong with a refused record of a trace: by the fault and the record's fields. A record without fields is the end of the text.
-use Rattle.msrp_plan.specs.Common.{ℕ, Bool, ◌==◌, ◌&&◌, ◌||◌, List, map, length, Option, Some, None, codes, is_none, not, if◌then◌else◌, name_position, PlanModel}
+use Rattle.std.specs.Prelude.{◌==◌, ◌&&◌, ◌||◌, if◌then◌else◌}
+use Rattle.msrp_plan.specs.Common.{ℕ, Bool, List, map, length, Option, Some, None, codes, is_none, not, name_position, PlanModel}
 use Rattle.msrp_text.specs.Fields.{has_word, name_at, number_at}
 use Rattle.msrp_trace.specs.Rows.{is_number}
 use Rattle.msrp_trace.specs.declared.faults.TraceFault.{TraceFault}

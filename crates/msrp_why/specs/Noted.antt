@@ -1,5 +1,6 @@
 -- What is noted of a run as its rows are judged.
-use Rattle.msrp_plan.specs.Common.{ℕ, List, [], ◌∷◌, ◌++◌, Option, Some, ◌≡◌, length, slice_get, drop, ForSome, log_of, PlanModel, units}
+use Rattle.std.specs.Prelude.{◌∷◌, ◌++◌, ◌≡◌}
+use Rattle.msrp_plan.specs.Common.{ℕ, List, [], Option, Some, length, slice_get, drop, ForSome, log_of, PlanModel, units}
 use Rattle.msrp_plan.specs.declared.ids.JobId.{JobId}
 use Rattle.msrp_plan.specs.declared.rows.Kind.{Kind}
 use Rattle.msrp_plan.specs.declared.rows.Kind.TheVariants.{Lock, Queue, Release, Take, Unlock}

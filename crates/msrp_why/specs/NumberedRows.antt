@@ -1,10 +1,10 @@
 -- Rows with their numbers: those of who stands in a queue, and the last change of a resource.
-use Rattle.msrp_plan.specs.Common.{ℕ, List, [], ◌∷◌, Bool, true, false, ◌&&◌, Option, Some, None, ◌+◌, ◌≡◌, drop, fold, count_by, is_on, is_request, is_release_of}
+use Rattle.msrp_plan.specs.Common.{ℕ, List, [], Bool, true, false, Option, Some, None, drop, fold, count_by, is_on, is_request, is_release_of}
 use Rattle.msrp_plan.specs.declared.ids.JobId.{JobId}
 use Rattle.msrp_plan.specs.declared.rows.Kind.{Kind}
 use Rattle.msrp_plan.specs.declared.rows.Kind.TheVariants.{Lock, Release, Unlock}
 use Rattle.msrp_plan.specs.declared.rows.Row.{Row}
-use Rattle.std.specs.Prelude.{filter}
+use Rattle.std.specs.Prelude.{◌∷◌, ◌&&◌, ◌+◌, ◌≡◌, filter}
 use Rattle.msrp_why.specs.declared.notes.Numbered.{Numbered}
 
 -- rows with their numbers, where so many come before

@@ -1,5 +1,6 @@
 -- What is written of a refused record of a trace: its code and number with a sentence, and the record as it stands.
-use Rattle.msrp_plan.specs.Common.{ℕ, List, [], ◌++◌, Option, length, codes, decimal, slice_get, unwrap_or, flat_map, range_with_len, PlanModel, task_at}
+use Rattle.std.specs.Prelude.{◌++◌}
+use Rattle.msrp_plan.specs.Common.{ℕ, List, [], Option, length, codes, decimal, slice_get, unwrap_or, flat_map, range_with_len, PlanModel, task_at}
 use Rattle.msrp_advice.specs.Refusals.{line_part}
 use Rattle.msrp_advice.specs.Shown.{shown_record, wrong_field}
 use Rattle.msrp_trace.specs.Codes.{code_of}

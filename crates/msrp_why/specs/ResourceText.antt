@@ -1,5 +1,6 @@
 -- What is noted of the resources, as text.
-use Rattle.msrp_plan.specs.Common.{ℕ, Bool, List, [], ◌++◌, ◌==◌, ◌&&◌, is_none, length, codes, decimal, nat_lt, slice_get, Option, Some, None, if◌then◌else◌, flat_map, list_any, PlanModel}
+use Rattle.std.specs.Prelude.{◌++◌, ◌==◌, ◌&&◌, if◌then◌else◌}
+use Rattle.msrp_plan.specs.Common.{ℕ, Bool, List, [], is_none, length, codes, decimal, nat_lt, slice_get, Option, Some, None, flat_map, list_any, PlanModel}
 use Rattle.msrp_plan.specs.declared.ids.ResId.{ResId}
 use Rattle.msrp_plan.specs.declared.rows.Kind.{Kind}
 use Rattle.msrp_plan.specs.declared.rows.Kind.TheVariants.{Lock}

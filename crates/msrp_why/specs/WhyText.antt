@@ -1,5 +1,6 @@
 -- A cause as text: the row, the rule, and the facts that the rule needs.
-use Rattle.msrp_plan.specs.Common.{ℕ, List, ◌++◌, ◌-◌, codes, PlanModel}
+use Rattle.std.specs.Prelude.{◌++◌, ◌-◌}
+use Rattle.msrp_plan.specs.Common.{ℕ, List, codes, PlanModel}
 use Rattle.msrp_plan.specs.declared.faults.Rule.{Rule}
 use Rattle.msrp_plan.specs.declared.faults.Rule.TheVariants.{A1, A2, A3, A4, A5, A6, A7}
 use Rattle.msrp_why.specs.ResourceText.{before_lines, held_text, reply_text}

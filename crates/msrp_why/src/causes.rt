@@ -1,5 +1,6 @@
 //! The cause of a fault, kept as rows are judged.
-ghost use Rattle.msrp_plan.specs.Common.{◌≡◌, ◌<◌, ◌*◌, ◌++◌, ◌∷◌, [], List, None, length, if◌then◌else◌, fault_in, IsPlan};
+ghost use Rattle.std.specs.Prelude.{◌≡◌, ◌<◌, ◌*◌, ◌++◌, ◌∷◌, if◌then◌else◌};
+ghost use Rattle.msrp_plan.specs.Common.{[], List, None, length, fault_in, IsPlan};
 ghost use Rattle.msrp_audit.specs.Audits.{HasFed, IsBroken};
 ghost use Rattle.msrp_plan.specs.declared.rows.Row.{Row as TraceRow};
 ghost use Rattle.msrp_why.specs.Causes.{IsCauseAfter, cores_with_turn};

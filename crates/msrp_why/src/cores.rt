@@ -1,5 +1,6 @@
 //! What is noted of each core before its next turn, so that a turn that changes little is noted by little.
-ghost use Rattle.msrp_plan.specs.Common.{ForSome, IsSomeAnd, ◌≡◌, ◌<◌, ◌+◌, ◌++◌, ◌∷◌, [], List, None, length, true, IsRunStart, IsPlan};
+ghost use Rattle.std.specs.Prelude.{◌≡◌, ◌<◌, ◌+◌, ◌++◌, ◌∷◌};
+ghost use Rattle.msrp_plan.specs.Common.{ForSome, IsSomeAnd, [], List, None, length, true, IsRunStart, IsPlan};
 ghost use Rattle.msrp_audit.specs.Audits.{HasFed};
 ghost use Rattle.msrp_plan.specs.declared.rows.Row.{Row as TraceRow};
 ghost use Rattle.msrp_why.specs.Exercise.{AreTurnCounts, is_kept, is_met};

@@ -1,5 +1,6 @@
 //! What a run exercised, counted as its rows are judged.
-ghost use Rattle.msrp_plan.specs.Common.{◌≡◌, ◌&&◌, ◌<◌, ◌++◌, ◌∷◌, [], List, length, not, true, ForSome, IsRunStart, PlanModel, units, IsPlan};
+ghost use Rattle.std.specs.Prelude.{◌≡◌, ◌&&◌, ◌<◌, ◌++◌, ◌∷◌};
+ghost use Rattle.msrp_plan.specs.Common.{[], List, length, not, true, ForSome, IsRunStart, PlanModel, units, IsPlan};
 ghost use Rattle.msrp_plan.specs.declared.rows.Row.{Row as TraceRow};
 ghost use Rattle.msrp_why.specs.Exercise.{AreTurnCounts, ends, is_at, is_entry, is_grant, is_in_tick, is_kept, is_met, is_opening, is_other, is_past, is_queue, one_if};
 ghost use Rattle.msrp_why.specs.FactLines.{is_job_of, units_done};

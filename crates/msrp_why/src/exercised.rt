@@ -1,5 +1,6 @@
 //! What a run exercised, in plain sentences.
-ghost use Rattle.msrp_plan.specs.Common.{◌≡◌, ◌<◌, length, flat_map, range_with_len, Wrote};
+ghost use Rattle.std.specs.Prelude.{◌≡◌, ◌<◌};
+ghost use Rattle.msrp_plan.specs.Common.{length, flat_map, range_with_len, Wrote};
 ghost use Rattle.msrp_why.specs.ExerciseText.{counts_line, counts_text, exercise_text, number_text, turns_text};
 
 use crate::exercise::{ResourceCounts, TurnCounts};

@@ -1,5 +1,6 @@
 //! Laws over what is noted of rows. Each function does nothing; its contract is the law.
-ghost use Rattle.msrp_plan.specs.Common.{◌≡◌, ℕ, List, Some, false, map, option_map, slice_get, true, IsSomeAnd, holds, is_global, PlanModel, fifo, IsRunStart, IsPlan};
+ghost use Rattle.std.specs.Prelude.{◌≡◌};
+ghost use Rattle.msrp_plan.specs.Common.{ℕ, List, Some, false, map, option_map, slice_get, true, IsSomeAnd, holds, is_global, PlanModel, fifo, IsRunStart, IsPlan};
 ghost use Rattle.msrp_plan.specs.declared.ids.JobId.{JobId};
 ghost use Rattle.msrp_plan.specs.declared.rows.Row.{Row};
 ghost use Rattle.msrp_why.specs.NumberedRows.{IsLockBy, job_of, last_change, queue_rows};

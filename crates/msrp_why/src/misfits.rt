@@ -1,5 +1,5 @@
 //! What is wrong with a refused record of a trace.
-ghost use Rattle.msrp_plan.specs.Common.{◌≡◌, ◌<◌};
+ghost use Rattle.std.specs.Prelude.{◌≡◌, ◌<◌};
 ghost use Rattle.std.specs.Option.{IfSome};
 ghost use Rattle.csv.specs.Records.{fields_of};
 ghost use Rattle.msrp_trace.specs.Rows.{is_number};

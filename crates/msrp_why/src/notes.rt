@@ -1,5 +1,6 @@
 //! What is noted of each resource as rows are judged: since which row who stands in its queue, and its last change.
-ghost use Rattle.msrp_plan.specs.Common.{ForSome, IsSomeAnd, ◌≡◌, ◌<◌, ◌++◌, ◌∷◌, [], List, IfOk, None, length, true, vec_capacity, is_request, IsRunStart, log_of, PlanModel, IsPlan};
+ghost use Rattle.std.specs.Prelude.{◌≡◌, ◌<◌, ◌++◌, ◌∷◌};
+ghost use Rattle.msrp_plan.specs.Common.{ForSome, IsSomeAnd, [], List, IfOk, None, length, true, vec_capacity, is_request, IsRunStart, log_of, PlanModel, IsPlan};
 ghost use Rattle.msrp_plan.specs.declared.rows.Row.{Row as TraceRow};
 ghost use Rattle.msrp_audit.specs.Audits.{HasFed};
 ghost use Rattle.msrp_core.specs.CoreStates.{IsCoreState};

@@ -1,5 +1,6 @@
 //! A refused record of a trace in plain sentences.
-ghost use Rattle.msrp_plan.specs.Common.{◌≡◌, Wrote};
+ghost use Rattle.std.specs.Prelude.{◌≡◌};
+ghost use Rattle.msrp_plan.specs.Common.{Wrote};
 ghost use Rattle.csv.specs.Records.{fields_of};
 ghost use Rattle.msrp_why.specs.RefusalText.{record_line, refused_text, said_of};
 

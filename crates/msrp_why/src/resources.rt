@@ -1,5 +1,6 @@
 //! What is noted of the resources, in plain sentences.
-ghost use Rattle.msrp_plan.specs.Common.{◌≡◌, ◌<◌, length, flat_map, list_any, Wrote};
+ghost use Rattle.std.specs.Prelude.{◌≡◌, ◌<◌};
+ghost use Rattle.msrp_plan.specs.Common.{length, flat_map, list_any, Wrote};
 ghost use Rattle.msrp_why.specs.ResourceText.{ahead_line, before_lines, ceiling_part, held_lines, hold_line, lacks_ahead, held_text, last_lines, lock_lines, own_line, queue_lines, reply_text, resource_lines, since_line};
 
 use crate::exercise::is_queue;

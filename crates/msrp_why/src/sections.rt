@@ -1,5 +1,6 @@
 //! Where the jobs of each task have a section open.
-ghost use Rattle.msrp_plan.specs.Common.{ℕ, ◌≡◌, ◌<◌, IfOk, Some, length, slice_get, PlanModel, task_at, units};
+ghost use Rattle.std.specs.Prelude.{◌≡◌, ◌<◌};
+ghost use Rattle.msrp_plan.specs.Common.{ℕ, IfOk, Some, length, slice_get, PlanModel, task_at, units};
 ghost use Rattle.msrp_why.specs.Exercise.{has_open, is_lock, is_unlock};
 ghost use Rattle.msrp_why.specs.Inside.Sections.{AreOpen, AreSections};
 

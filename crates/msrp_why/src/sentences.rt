@@ -1,5 +1,6 @@
 //! What is said of a refused record of a trace, in words.
-ghost use Rattle.msrp_plan.specs.Common.{◌≡◌, ◌<◌, ◌++◌, decimal, length, flat_map, range_with_len, Wrote};
+ghost use Rattle.std.specs.Prelude.{◌≡◌, ◌<◌, ◌++◌};
+ghost use Rattle.msrp_plan.specs.Common.{decimal, length, flat_map, range_with_len, Wrote};
 ghost use Rattle.msrp_why.specs.RefusalText.{allowed_text, res_text, size_text, task_text, words};
 
 use crate::misfits::Misfit;

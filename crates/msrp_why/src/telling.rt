@@ -1,5 +1,6 @@
 //! A cause in plain sentences, a line each.
-ghost use Rattle.msrp_plan.specs.Common.{◌≡◌, ◌<◌, ◌-◌, decimal, true, length, flat_map, Wrote, release_tick};
+ghost use Rattle.std.specs.Prelude.{◌≡◌, ◌<◌, ◌-◌};
+ghost use Rattle.msrp_plan.specs.Common.{decimal, true, length, flat_map, Wrote, release_tick};
 ghost use Rattle.std.specs.Option.{IsSome};
 ghost use Rattle.msrp_advice.specs.Refusals.{line_part};
 ghost use Rattle.msrp_trace.specs.TraceText.{is_named, row_text};

@@ -1,5 +1,6 @@
 -- No command is asked for.
-use Rattle.msrp_plan.proofs.Common.{◌≡◌, ◌∙◌, false, true, List, Option, Some, None, Result, Ok, Err, codes, ok_or, refl, sym, bytes_eq}
+use Rattle.std.proofs.Common.{◌≡◌, ◌∙◌}
+use Rattle.msrp_plan.proofs.Common.{false, true, List, Option, Some, None, Result, Ok, Err, codes, ok_or, refl, sym, bytes_eq}
 use Rattle.std.proofs.lemmas.Slice.Eq.{bytes_eq-Decides}
 use Rattle.clap.specs.Words.{Row, Text, first_of}
 use Rattle.msrp_words.specs.Words.{IsAsked, IsCommand, order_of}

@@ -1,6 +1,6 @@
 -- What the parser was told, command by command.
-use Rattle.msrp_plan.proofs.Common.{◌≡◌, ◌∙◌, ◌&&◌, Bool, true, false, not, List, [], ◌∷◌, Option, Some, None, Result, option_map, refl, ap, sym}
-use Rattle.std.proofs.Common.{ap₂}
+use Rattle.msrp_plan.proofs.Common.{Bool, true, false, not, List, [], Option, Some, None, Result, option_map, refl, ap, sym}
+use Rattle.std.proofs.Common.{◌≡◌, ◌∙◌, ◌&&◌, ◌∷◌, ap₂}
 use Rattle.clap.proofs.OnLiterals.{clap_on_literals}
 use Rattle.clap.specs.Words.{AddsSubcommand, App, IsAmong, Kinds, Row, Text, app_of, found_of, is_simple, is_simple_and_free, rows_of, subcommand_name_of, subcommand_rows_of, with_subcommand}
 use Rattle.clap.specs.declared.builder.command.Command.{Command}

@@ -1,5 +1,6 @@
 -- The words that the program takes, as the parser is told of them, and what is answered.
-use Rattle.msrp_plan.specs.Common.{◌≡◌, false, List, [], ◌∷◌, Option, Some, None, codes, IsOkAnd, Result}
+use Rattle.std.specs.Prelude.{◌≡◌, ◌∷◌}
+use Rattle.msrp_plan.specs.Common.{false, List, [], Option, Some, None, codes, IsOkAnd, Result}
 use Rattle.clap.specs.Words.{App, IsAmong, Kinds, Row, Rule, Text, app_of, new_app, new_rule, rule_of, with_rule, with_subcommand}
 use Rattle.clap.specs.declared.builder.arg.Arg.{Arg}
 use Rattle.clap.specs.declared.builder.command.Command.{Command}

@@ -1,8 +1,8 @@
 -- What a command line asks for.
-use Rattle.msrp_plan.specs.Common.{◌≡◌, true, false, List, Option, Some, None, codes, unwrap_or, if◌then◌else◌, Ok, Err, bytes_eq}
+use Rattle.msrp_plan.specs.Common.{true, false, List, Option, Some, None, codes, unwrap_or, Ok, Err, bytes_eq}
 use Rattle.msrp_plan.specs.declared.rows.TextVersion.{TextVersion}
 use Rattle.msrp_plan.specs.declared.rows.TextVersion.TheVariants.{V1, V2}
-use Rattle.std.specs.Prelude.{Result}
+use Rattle.std.specs.Prelude.{◌≡◌, if◌then◌else◌, Result}
 use Rattle.clap.specs.Words.{Row, Text, first_of}
 use Rattle.msrp_words.specs.declared.cli.Cmd.{Cmd}
 use Rattle.msrp_words.specs.declared.cli.Cmd.TheVariants.{Sim, Run, Audit, Report, Check, CheckText, Help}

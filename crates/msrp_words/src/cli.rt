@@ -1,6 +1,7 @@
 //! The command line: the words of a command, and what they ask for.
 
-ghost use Rattle.msrp_plan.specs.Common.{◌≡◌, ◌⊎◌, codes, false, map, ok_or, option_map, string_bytes, true, Err, IfErr, IfOk};
+ghost use Rattle.std.specs.Prelude.{◌≡◌, ◌⊎◌};
+ghost use Rattle.msrp_plan.specs.Common.{codes, false, map, ok_or, option_map, string_bytes, true, Err, IfErr, IfOk};
 ghost use Rattle.clap.specs.Words.{App, Rule, fault_of, found_of, new_app, rows_of, rule_of, subcommand_of, subcommand_rows_of, with_rule, with_subcommand};
 ghost use Rattle.msrp_words.specs.CommandLine as line;
 ghost use Rattle.msrp_words.specs.CommandLine.{Declares, IsAnswered, IsChosen, Takes};

@@ -1,5 +1,6 @@
 -- The pieces of an audit: which rule each of them finds broken at a row, and which fault it answers.
-use Rattle.msrp_plan.specs.Common.{ℕ, List, ◌∷◌, ◌++◌, Bool, ◌==◌, ◌&&◌, nat_lt, nat_le, Option, Some, None, IfSome, fold, length, ◌≡◌, ◌≤◌, ◌+◌, ◌-◌, ◌*◌, ◌/◌, if◌then◌else◌, PlanModel, is_global, is_of, is_on, IsRunStart, is_in_turn, is_of_core, is_chosen, is_next_action, is_fifo_reply}
+use Rattle.std.specs.Prelude.{◌∷◌, ◌++◌, ◌==◌, ◌&&◌, ◌≡◌, ◌≤◌, ◌+◌, ◌-◌, ◌*◌, ◌/◌, if◌then◌else◌}
+use Rattle.msrp_plan.specs.Common.{ℕ, List, Bool, nat_lt, nat_le, Option, Some, None, IfSome, fold, length, PlanModel, is_global, is_of, is_on, IsRunStart, is_in_turn, is_of_core, is_chosen, is_next_action, is_fifo_reply}
 use Rattle.msrp_plan.specs.declared.faults.Fault.{Fault}
 use Rattle.msrp_plan.specs.declared.faults.Rule.{Rule}
 use Rattle.msrp_plan.specs.declared.faults.Rule.TheVariants.{A1, A2, A3, A4, A5, A6, A7}

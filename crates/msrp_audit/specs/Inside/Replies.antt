@@ -1,5 +1,6 @@
 -- A port for one turn, which answers yes to all, or no.
-use Rattle.msrp_plan.specs.Common.{zero, suc, Bool, true, false, not, if◌then◌else◌}
+use Rattle.std.specs.Prelude.{if◌then◌else◌}
+use Rattle.msrp_plan.specs.Common.{zero, suc, Bool, true, false, not}
 use Rattle.msrp_plan.specs.declared.rows.Kind.{Kind}
 use Rattle.msrp_plan.specs.declared.rows.Kind.TheVariants.{Take, Grant}
 use Rattle.msrp_plan.specs.declared.units.Call.{Call}

@@ -1,5 +1,6 @@
 -- A row in eight bytes, and the row that it stands for.
-use Rattle.msrp_plan.specs.Common.{ℕ, List, [], ◌∷◌, ◌++◌, ◌-◌, map, nat_le, slice_index_or, ahead_of_kind, job_of_kind, res_of_kind}
+use Rattle.std.specs.Prelude.{◌∷◌, ◌++◌, ◌-◌}
+use Rattle.msrp_plan.specs.Common.{ℕ, List, [], map, nat_le, slice_index_or, ahead_of_kind, job_of_kind, res_of_kind}
 use Rattle.msrp_plan.specs.Shape.{carrier_of_kind, shape_of_kind}
 use Rattle.msrp_plan.specs.declared.ids.JobId.{JobId}
 use Rattle.msrp_plan.specs.declared.ids.ResId.{ResId}

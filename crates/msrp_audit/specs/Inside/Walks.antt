@@ -1,5 +1,6 @@
 -- What a piece of an audit keeps as it goes over the rows.
-use Rattle.msrp_plan.specs.Common.{ℕ, List, length, slice_index_or, ◌≡◌, ◌<◌, PlanModel, log_of}
+use Rattle.std.specs.Prelude.{◌≡◌, ◌<◌}
+use Rattle.msrp_plan.specs.Common.{ℕ, List, length, slice_index_or, PlanModel, log_of}
 use Rattle.msrp_plan.specs.declared.rows.Row.{Row}
 
 -- the tick of each core's next turn after these rows: the core had one turn in each tick before it

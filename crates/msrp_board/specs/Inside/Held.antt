@@ -1,8 +1,8 @@
 -- How what a seat keeps at run time stands to what it knows, and how what it knows is told to callers.
-use Rattle.msrp_plan.specs.Common.{◌≡◌, ℕ, ◌<◌, ◌≤◌, ◌==◌, List, [], map, take, slice_index, Some, None, reverse, Bool, true, false, ◌+◌, ◌*◌, slice_index_or, ⊤, if◌then◌else◌, filter_map, most_resources}
+use Rattle.msrp_plan.specs.Common.{ℕ, List, [], map, take, slice_index, Some, None, reverse, Bool, true, false, slice_index_or, ⊤, filter_map, most_resources}
 use Rattle.msrp_plan.specs.declared.units.Phase.{Phase}
 use Rattle.msrp_plan.specs.declared.units.Phase.TheVariants.{Free, Queued, Holding}
-use Rattle.std.specs.Prelude.{ltb, leb}
+use Rattle.std.specs.Prelude.{◌≡◌, ◌<◌, ◌≤◌, ◌==◌, ◌+◌, ◌*◌, if◌then◌else◌, ltb, leb}
 use Rattle.std.specs.Option.{option_map, unwrap_or}
 use Rattle.std.specs.declared.option.Option.{Option}
 use mathlib.Core.Option.{some}

@@ -1,6 +1,7 @@
 -- What a board keeps of its entries, the newest first, which is how one entry is added; callers see them oldest first.
 -- A word that ends in `Newest` is the word of that name in `Books` or `History`, of the reversed list.
-use Rattle.msrp_plan.specs.Common.{◌≡◌, ℕ, zero, suc, ◌+◌, ◌/◌, ◌<◌, ◌≤◌, List, [], ◌∷◌, Bool, true, false, ◌⊎◌, ⊤, FifoLock, Answers}
+use Rattle.std.specs.Prelude.{◌≡◌, ◌+◌, ◌/◌, ◌<◌, ◌≤◌, ◌∷◌, ◌⊎◌}
+use Rattle.msrp_plan.specs.Common.{ℕ, zero, suc, List, [], Bool, true, false, ⊤, FifoLock, Answers}
 use Rattle.msrp_plan.specs.declared.units.Call.{Call}
 use Rattle.msrp_plan.specs.declared.units.Call.TheVariants.{Ask, Poll, Leave}
 use Rattle.std.specs.Bool.{OnTrue}

@@ -1,8 +1,8 @@
 -- The rule of a board's words: what always holds of the words and of the books of all seats, and what each step tells.
-use Rattle.msrp_plan.specs.Common.{◌≡◌, ℕ, suc, ◌==◌, ◌+◌, ◌*◌, ◌-◌, ◌^◌, ◌<◌, ◌≤◌, List, [], ◌∷◌, length, map, Bool, true, false, Some, None, replicate, slice_index, list_any, AllByRecursion}
+use Rattle.msrp_plan.specs.Common.{ℕ, suc, List, [], length, map, Bool, true, false, Some, None, replicate, slice_index, list_any, AllByRecursion}
 use Rattle.msrp_plan.specs.declared.units.Call.{Call}
 use Rattle.msrp_plan.specs.declared.units.Call.TheVariants.{Ask, Poll, Leave}
-use Rattle.std.specs.Prelude.{ltb, leb}
+use Rattle.std.specs.Prelude.{◌≡◌, ◌==◌, ◌+◌, ◌*◌, ◌-◌, ◌^◌, ◌<◌, ◌≤◌, ◌∷◌, ltb, leb}
 use Rattle.std.specs.Option.{option_map}
 use mathlib.Core.Option.{some}
 use lib.ListN.{get_elem?}

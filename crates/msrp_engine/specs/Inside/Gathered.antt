@@ -1,5 +1,6 @@
 -- The rows of a trace's text that are gathered before they are judged, and what is found in them.
-use Rattle.msrp_plan.specs.Common.{◌≡◌, ◌⊎◌, ◌≤◌, if◌then◌else◌, ℕ, Bool, true, false, ⊤, List, [], ◌++◌, None, Some, length, option_map, Result}
+use Rattle.std.specs.Prelude.{◌≡◌, ◌⊎◌, ◌≤◌, if◌then◌else◌, ◌++◌}
+use Rattle.msrp_plan.specs.Common.{ℕ, Bool, true, false, ⊤, List, [], None, Some, length, option_map, Result}
 use Rattle.std.specs.declared.result.Result.TheVariants.{Ok, Err}
 use Rattle.msrp_plan.specs.declared.faults.Fault.{Fault}
 use Rattle.msrp_plan.specs.declared.faults.Rule.{Rule}

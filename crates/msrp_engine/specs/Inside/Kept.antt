@@ -1,5 +1,6 @@
 -- The texts of the cores' rows, as rows are judged.
-use Rattle.msrp_plan.specs.Common.{ℕ, List, [], true, ◌≡◌, ◌<◌, Some, PlanModel, in_tick}
+use Rattle.std.specs.Prelude.{◌≡◌, ◌<◌}
+use Rattle.msrp_plan.specs.Common.{ℕ, List, [], true, Some, PlanModel, in_tick}
 use Rattle.msrp_plan.specs.declared.rows.Row.{Row}
 use Rattle.msrp_plan.specs.declared.rows.TextVersion.{TextVersion}
 use Rattle.msrp_sim.specs.Cores.{CoresModel, known_row}

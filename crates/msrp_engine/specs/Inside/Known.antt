@@ -1,5 +1,6 @@
 -- A simulation beside the texts of its rows.
-use Rattle.msrp_plan.specs.Common.{◌≡◌, ◌<◌, ℕ, List, IfSome}
+use Rattle.std.specs.Prelude.{◌≡◌, ◌<◌}
+use Rattle.msrp_plan.specs.Common.{ℕ, List, IfSome}
 use Rattle.msrp_plan.specs.declared.rows.Row.{Row}
 use Rattle.msrp_sim.specs.Cores.{known_row}
 use Rattle.msrp_sim.specs.Simulated.{SimModel, HasMade}

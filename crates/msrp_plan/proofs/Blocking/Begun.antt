@@ -1,9 +1,9 @@
 -- A row that blocks a job is of whoever runs, in an outermost section that began before the job's release: had it begun
 -- later, the job would have held it up.
-use Rattle.msrp_plan.specs.Common.{◌≡◌, ℕ, ◌<◌, Bool, true, false, List, [], ◌∷◌, ◌++◌, Contains, PlanModel, units, release, jobs_on, is_row_of, is_started, is_queued, done, level, is_before, in_section, is_amid, section_of, IsLegal, IsRunStart, IsPlan}
+use Rattle.msrp_plan.specs.Common.{ℕ, Bool, true, false, List, [], Contains, PlanModel, units, release, jobs_on, is_row_of, is_started, is_queued, done, level, is_before, in_section, is_amid, section_of, IsLegal, IsRunStart, IsPlan}
 use Rattle.msrp_plan.specs.declared.ids.JobId.{JobId}
 use Rattle.msrp_plan.specs.declared.rows.Row.{Row}
-use Rattle.std.proofs.Common.{refl, ap, sym, ◌∙◌, append_assoc, inl, inr}
+use Rattle.std.proofs.Common.{◌≡◌, ◌<◌, ◌∷◌, ◌++◌, refl, ap, sym, ◌∙◌, append_assoc, inl, inr}
 use Rattle.std.proofs.Math.Bool.{true≢false}
 use Rattle.std.proofs.lemmas.Bool.{cases_lt, or_parts}
 use Rattle.msrp_plan.specs.Blocking.{IsBegun, HasBlockers, BlockedByBegunSections}

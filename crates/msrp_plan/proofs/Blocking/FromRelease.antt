@@ -1,9 +1,9 @@
 -- Who blocks a job is known at its release: the first of the later jobs that are live then. So how long a job is blocked is
 -- counted in one pass, by the rows that this one job makes until the blocked job starts.
-use Rattle.msrp_plan.specs.Common.{◌≡◌, ℕ, ◌<◌, Bool, true, false, not, ◌&&◌, ◌==◌, cond, ◌||◌, List, [], ◌∷◌, ◌++◌, Option, Some, None, length, AllByRecursion, Contains, PlanModel, task_of, core_of, release, units, jobs, jobs_on, is_job, is_row_of, is_released, is_started, is_finished, done, level, is_before, count_after, blocks, blocked, first_later, IsLegal, IsRunStart, EachAfter, IsPlan}
+use Rattle.msrp_plan.specs.Common.{ℕ, Bool, true, false, not, cond, List, [], Option, Some, None, length, AllByRecursion, Contains, PlanModel, task_of, core_of, release, units, jobs, jobs_on, is_job, is_row_of, is_released, is_started, is_finished, done, level, is_before, count_after, blocks, blocked, first_later, IsLegal, IsRunStart, EachAfter, IsPlan}
 use Rattle.msrp_plan.specs.declared.ids.JobId.{JobId}
 use Rattle.msrp_plan.specs.declared.rows.Row.{Row}
-use Rattle.std.proofs.Common.{refl, ap, sym, ◌∙◌, subst, arith, append_assoc, append-nil, eq-eqb}
+use Rattle.std.proofs.Common.{◌≡◌, ◌<◌, ◌&&◌, ◌==◌, ◌||◌, ◌∷◌, ◌++◌, refl, ap, sym, ◌∙◌, subst, arith, append_assoc, append-nil, eq-eqb}
 use Rattle.std.proofs.Math.Bool.{true≢false}
 use Rattle.std.proofs.lemmas.Bool.{and_from, and_parts, false_from_ne_true, le-leb, ne_eqb}
 use Rattle.msrp_plan.specs.Blocking.{is_later, is_by, delays_start, ComesBefore, ComesAfter, BlockedSinceRelease}

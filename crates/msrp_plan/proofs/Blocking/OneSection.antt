@@ -1,9 +1,9 @@
 -- One section of one later job gives all the rows that block a job: from the first such row on no other later job presses
 -- on the level of a job that is still to start before, and its own job makes no row past its section.
-use Rattle.msrp_plan.specs.Common.{◌≡◌, ◌≢◌, ℕ, ◌+◌, ◌<◌, ◌≤◌, ◌/◌, Bool, true, false, ◌&&◌, ◌==◌, List, [], ◌∷◌, ◌++◌, Some, length, Contains, PlanModel, task_of, core_of, release, jobs, jobs_on, same_job, is_row_of, is_started, level, is_before, is_amid, section_of, blocks, continues, IsLegal, IsRunStart, EachAfter, IsPlan}
+use Rattle.msrp_plan.specs.Common.{ℕ, Bool, true, false, List, [], Some, length, Contains, PlanModel, task_of, core_of, release, jobs, jobs_on, same_job, is_row_of, is_started, level, is_before, is_amid, section_of, blocks, continues, IsLegal, IsRunStart, EachAfter, IsPlan}
 use Rattle.msrp_plan.specs.declared.ids.JobId.{JobId}
 use Rattle.msrp_plan.specs.declared.rows.Row.{Row}
-use Rattle.std.proofs.Common.{refl, ap, sym, ◌∙◌, subst, arith, length-append, eq-eqb}
+use Rattle.std.proofs.Common.{◌≡◌, ◌≢◌, ◌+◌, ◌<◌, ◌≤◌, ◌/◌, ◌&&◌, ◌==◌, ◌∷◌, ◌++◌, refl, ap, sym, ◌∙◌, subst, arith, length-append, eq-eqb}
 use Rattle.std.proofs.Math.Bool.{true≢false}
 use Rattle.std.proofs.Math.Nat.{div-mul-le_self}
 use Rattle.std.proofs.lemmas.Bool.{and_from}

@@ -1,11 +1,11 @@
 -- How many rows an outermost section has: counted along the run against what the units done so far may take.
-use Rattle.msrp_plan.specs.Common.{◌≡◌, ℕ, zero, suc, ◌+◌, ◌-◌, ◌≤◌, Bool, true, false, cond, not, ◌&&◌, ◌||◌, ◌==◌, List, [], ◌∷◌, ◌++◌, Some, length, slice_get, filter, range_with_len, sum_by, PlanModel, TaskModel, task_of, core_of, units, is_row_of, is_waiting, is_queued, done, is_global, is_global_unit, res_of_unit, is_on, spin_bound, in_section, section_start, count_after, is_amid, section_of, continues, IsWait, is_grant, is_grant_of, is_spin, is_spin_of, IsLegal, IsRunStart, EachAfter, JobState, IsPlan}
+use Rattle.msrp_plan.specs.Common.{ℕ, zero, suc, Bool, true, false, cond, not, List, [], Some, length, slice_get, filter, range_with_len, sum_by, PlanModel, TaskModel, task_of, core_of, units, is_row_of, is_waiting, is_queued, done, is_global, is_global_unit, res_of_unit, is_on, spin_bound, in_section, section_start, count_after, is_amid, section_of, continues, IsWait, is_grant, is_grant_of, is_spin, is_spin_of, IsLegal, IsRunStart, EachAfter, JobState, IsPlan}
 use Rattle.msrp_plan.specs.declared.ids.JobId.{JobId}
 use Rattle.msrp_plan.specs.declared.ids.ResId.{ResId}
 use Rattle.msrp_plan.specs.declared.rows.Kind.{Kind}
 use Rattle.msrp_plan.specs.declared.rows.Kind.TheVariants.{Queue, Spin}
 use Rattle.msrp_plan.specs.declared.rows.Row.{Row}
-use Rattle.std.proofs.Common.{refl, ap, sym, ◌∙◌, subst, arith, append_assoc, append-nil, eq-eqb}
+use Rattle.std.proofs.Common.{◌≡◌, ◌+◌, ◌-◌, ◌≤◌, ◌&&◌, ◌||◌, ◌==◌, ◌∷◌, ◌++◌, refl, ap, sym, ◌∙◌, subst, arith, append_assoc, append-nil, eq-eqb}
 use Rattle.std.specs.List.{count_by}
 use Rattle.std.proofs.Math.Bool.{true≢false, and-false}
 use Rattle.std.proofs.lemmas.List.Elements.{filter-append}

@@ -1,10 +1,10 @@
 -- What each call of the builder keeps of its draft, and what the last call makes of it.
-use Rattle.msrp_plan.specs.Common.{◌≡◌, ℕ, ◌+◌, ◌-◌, ◌<◌, ◌≤◌, ◌==◌, ◌&&◌, ◌||◌, nat_lt, nat_le, Bool, true, false, cond, not, List, [], ◌∷◌, ◌++◌, length, map, set, drop, replicate, nat_eq, is_none, slice_index_or, Some, None, list_any, bytes_eq, PlanModel, TaskModel, task_at, no_task, has_name, held_after, held_with, IsLocking, ReleaseTimes, Every, Listed, AreTimes, listed_ticks, empty_plan, new_fault, resource_fault, task_fault, release_fault, op_fault, with_resource, with_task, with_release, with_units, takes_releases, units_of, is_within}
+use Rattle.msrp_plan.specs.Common.{ℕ, nat_lt, nat_le, Bool, true, false, cond, not, List, [], length, map, set, drop, replicate, nat_eq, is_none, slice_index_or, Some, None, list_any, bytes_eq, PlanModel, TaskModel, task_at, no_task, has_name, held_after, held_with, IsLocking, ReleaseTimes, Every, Listed, AreTimes, listed_ticks, empty_plan, new_fault, resource_fault, task_fault, release_fault, op_fault, with_resource, with_task, with_release, with_units, takes_releases, units_of, is_within}
 use Rattle.msrp_plan.specs.declared.ids.ResId.{ResId}
 use Rattle.msrp_plan.specs.declared.units.Op.{Op}
 use Rattle.msrp_plan.specs.declared.units.Step.{Step}
 use Rattle.msrp_plan.specs.declared.faults.PlanFault.TheVariants.{Limit}
-use Rattle.std.proofs.Common.{refl, ap, sym, subst, ◌∙◌, inl, inr, arith}
+use Rattle.std.proofs.Common.{◌≡◌, ◌+◌, ◌-◌, ◌<◌, ◌≤◌, ◌==◌, ◌&&◌, ◌||◌, ◌∷◌, ◌++◌, refl, ap, sym, subst, ◌∙◌, inl, inr, arith}
 use Rattle.std.specs.List.{slice_get}
 use Rattle.std.specs.List.Sorted.{IsStrictlyIncreasing}
 use Rattle.std.specs.Cmp.Lexicographic.{nat_list_eq_equiv}

@@ -1,7 +1,7 @@
 -- What the builder's tests say where they find no fault.
-use Rattle.msrp_plan.specs.Common.{◌≡◌, ℕ, ◌≤◌, nat_le, Bool, true, false, List, [], ◌∷◌, Option, Some, None, is_within}
+use Rattle.msrp_plan.specs.Common.{ℕ, nat_le, Bool, true, false, List, [], Option, Some, None, is_within}
 use Rattle.msrp_plan.specs.declared.faults.PlanFault.{PlanFault}
-use Rattle.std.proofs.Common.{refl, sym}
+use Rattle.std.proofs.Common.{◌≡◌, ◌≤◌, ◌∷◌, refl, sym}
 use Rattle.std.proofs.lemmas.Bool.{and_parts, leb-true}
 use Rattle.std.proofs.lemmas.Option.{none-some}
 use Rattle.msrp_plan.specs.Building.{fault_if, first_fault, is_none_held}

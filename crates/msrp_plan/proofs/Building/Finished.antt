@@ -1,7 +1,7 @@
 -- A draft that may end is a plan.
-use Rattle.msrp_plan.specs.Common.{◌≡◌, ℕ, ◌+◌, ◌==◌, nat_lt, Bool, true, false, cond, ◌&&◌, List, [], ◌∷◌, length, take, None, list_any, range_with_len, PlanModel, TaskModel, task_at, no_task, held_after, jobs, is_global, IsNestedAt, IsPlan, finish_fault, nests_global}
+use Rattle.msrp_plan.specs.Common.{ℕ, nat_lt, Bool, true, false, cond, List, [], length, take, None, list_any, range_with_len, PlanModel, TaskModel, task_at, no_task, held_after, jobs, is_global, IsNestedAt, IsPlan, finish_fault, nests_global}
 use Rattle.msrp_plan.specs.declared.units.Op.{Op}
-use Rattle.std.proofs.Common.{refl, ap, sym, ◌∙◌, arith, eqb-true}
+use Rattle.std.proofs.Common.{◌≡◌, ◌+◌, ◌==◌, ◌&&◌, ◌∷◌, refl, ap, sym, ◌∙◌, arith, eqb-true}
 use Rattle.std.specs.List.{slice_get}
 use Rattle.std.proofs.lemmas.Bool.{and_from, or_parts, true≢false, false_from_ne_true, ltb-false}
 use Rattle.std.proofs.lemmas.Option.{slice_get_within}

@@ -1,8 +1,8 @@
 -- The scan of a task's units for a global resource that is locked while a global one is held.
-use Rattle.msrp_plan.specs.Common.{◌≡◌, ℕ, ◌+◌, ◌<◌, ◌≤◌, ◌==◌, ◌++◌, nat_eq, nat_lt, Bool, true, false, cond, not, ◌&&◌, ◌||◌, List, [], ◌∷◌, length, take, get_or, Option, Some, None, list_any, range_with_len, PlanModel, held_after, held_with, is_global, IsNestedAt, nests_global}
+use Rattle.msrp_plan.specs.Common.{ℕ, nat_eq, nat_lt, Bool, true, false, cond, not, List, [], length, take, get_or, Option, Some, None, list_any, range_with_len, PlanModel, held_after, held_with, is_global, IsNestedAt, nests_global}
 use Rattle.msrp_plan.specs.declared.ids.ResId.{ResId}
 use Rattle.msrp_plan.specs.declared.units.Op.{Op}
-use Rattle.std.proofs.Common.{refl, ap, sym, ◌∙◌, subst, inl, inr, arith}
+use Rattle.std.proofs.Common.{◌≡◌, ◌+◌, ◌<◌, ◌≤◌, ◌==◌, ◌++◌, ◌&&◌, ◌||◌, ◌∷◌, refl, ap, sym, ◌∙◌, subst, inl, inr, arith}
 use Rattle.std.specs.List.{count_by, slice_get}
 use Rattle.std.proofs.lemmas.Bool.{cases_Bool, or_from, eqb-true, true≢false, lt-ltb}
 use Rattle.std.proofs.lemmas.List.{take_more}

@@ -1,8 +1,8 @@
 -- Names and tasks as they are stored, and as a plan has them.
-use Rattle.msrp_plan.specs.Common.{◌≡◌, ℕ, suc, zero, ◌+◌, ◌==◌, nat_eq, Bool, false, cond, not, List, [], ◌∷◌, ◌++◌, map, set, slice_index_or, string_bytes, Option, Some, None, is_some, Global, String, list_any, values_of, bytes_eq, TaskModel, no_task, has_name, name_position}
+use Rattle.msrp_plan.specs.Common.{ℕ, suc, zero, nat_eq, Bool, false, cond, not, List, [], map, set, slice_index_or, string_bytes, Option, Some, None, is_some, Global, String, list_any, values_of, bytes_eq, TaskModel, no_task, has_name, name_position}
 use Rattle.msrp_plan.specs.declared.ids.ResId.{ResId}
 use Rattle.msrp_plan.specs.declared.tasks.Task.{Task}
-use Rattle.std.proofs.Common.{string_eq, refl, ap, sym, ◌∙◌, arith}
+use Rattle.std.proofs.Common.{◌≡◌, ◌+◌, ◌==◌, ◌∷◌, ◌++◌, string_eq, refl, ap, sym, ◌∙◌, arith}
 use Rattle.std.specs.List.{position, position_or_len, slice_get}
 use Rattle.std.specs.Map.{keys_of, lookup}
 use Rattle.std.proofs.lemmas.Option.{none-some, same_Some}

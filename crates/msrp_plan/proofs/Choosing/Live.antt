@@ -1,9 +1,9 @@
 -- Started and unfinished jobs: whoever holds a resource or waits for one is such a job.
-use Rattle.msrp_plan.specs.Common.{◌≡◌, ℕ, Bool, true, false, not, ◌&&◌, ◌==◌, List, [], ◌∷◌, ◌++◌, Option, Some, None, length, take, slice_get, PlanModel, units, locks, unlocks, holds_after, is_row_of, is_waiting, is_started, is_finished, is_queued, done, holds, JobState, IsPlan}
+use Rattle.msrp_plan.specs.Common.{ℕ, Bool, true, false, not, List, [], Option, Some, None, length, take, slice_get, PlanModel, units, locks, unlocks, holds_after, is_row_of, is_waiting, is_started, is_finished, is_queued, done, holds, JobState, IsPlan}
 use Rattle.msrp_plan.specs.declared.ids.JobId.{JobId}
 use Rattle.msrp_plan.specs.declared.units.Op.{Op}
 use Rattle.msrp_plan.specs.declared.rows.Row.{Row}
-use Rattle.std.proofs.Common.{refl, ap, sym, ◌∙◌, arith, inl, inr}
+use Rattle.std.proofs.Common.{◌≡◌, ◌&&◌, ◌==◌, ◌∷◌, ◌++◌, refl, ap, sym, ◌∙◌, arith, inl, inr}
 use Rattle.std.specs.List.{fold}
 use Rattle.std.proofs.Math.Bool.{true≢false}
 use Rattle.std.proofs.lemmas.Bool.{eqb-true, le-ltb, true_from_ne_false, false_from_ne_true}

@@ -1,9 +1,9 @@
 -- While a job holds a global resource or waits for one, no other live job of its core is before it, and its core's
 -- turns are its own.
-use Rattle.msrp_plan.specs.Common.{◌≡◌, ℕ, Bool, true, false, List, [], ◌∷◌, ◌++◌, Some, Contains, PlanModel, jobs_on, is_row_of, done, is_global, resources, is_before, choice, IsPlan}
+use Rattle.msrp_plan.specs.Common.{ℕ, Bool, true, false, List, [], Some, Contains, PlanModel, jobs_on, is_row_of, done, is_global, resources, is_before, choice, IsPlan}
 use Rattle.msrp_plan.specs.declared.ids.JobId.{JobId}
 use Rattle.msrp_plan.specs.declared.rows.Row.{Row}
-use Rattle.std.proofs.Common.{refl, sym, ◌∙◌, subst, arith, inl, inr}
+use Rattle.std.proofs.Common.{◌≡◌, ◌∷◌, ◌++◌, refl, sym, ◌∙◌, subst, arith, inl, inr}
 use Rattle.std.proofs.Math.Bool.{true≢false}
 use Rattle.msrp_plan.proofs.Jobs.JobTests.{some_is, is_job_is}
 use Rattle.msrp_plan.proofs.Jobs.Keys.{before_order, tied}

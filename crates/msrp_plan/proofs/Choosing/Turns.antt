@@ -1,8 +1,8 @@
 -- Who has the turn: the head, above the ceiling and before whoever runs, or whoever runs.
-use Rattle.msrp_plan.specs.Common.{◌≡◌, ◌≢◌, ℕ, ◌<◌, Bool, true, false, cond, not, ◌&&◌, List, Option, Some, None, nat_lt, ◌⊎◌, Contains, PlanModel, jobs_on, is_started, is_finished, level, ceiling, is_before, head, running, chosen, choice}
+use Rattle.msrp_plan.specs.Common.{ℕ, Bool, true, false, cond, not, List, Option, Some, None, nat_lt, Contains, PlanModel, jobs_on, is_started, is_finished, level, ceiling, is_before, head, running, chosen, choice}
 use Rattle.msrp_plan.specs.declared.ids.JobId.{JobId}
 use Rattle.msrp_plan.specs.declared.rows.Row.{Row}
-use Rattle.std.proofs.Common.{refl, ap, sym, ◌∙◌, subst, inl, inr}
+use Rattle.std.proofs.Common.{◌≡◌, ◌≢◌, ◌<◌, ◌&&◌, ◌⊎◌, refl, ap, sym, ◌∙◌, subst, inl, inr}
 use Rattle.std.proofs.Math.Bool.{true≢false}
 use Rattle.std.proofs.lemmas.Bool.{ltb-true, and_parts, not-true, false_from_ne_true}
 use Rattle.msrp_plan.proofs.Jobs.JobTests.{some_is}

@@ -1,10 +1,10 @@
 -- Whoever holds a global resource stands first in its queue: so one job at most holds it.
-use Rattle.msrp_plan.specs.Common.{◌≡◌, ℕ, Bool, true, false, ◌&&◌, List, [], ◌∷◌, ◌++◌, Some, PlanModel, is_row_of, is_global, fifo, is_first, is_release_of, is_release, IsLegal, EachAfter, IsPlan}
+use Rattle.msrp_plan.specs.Common.{ℕ, Bool, true, false, List, [], Some, PlanModel, is_row_of, is_global, fifo, is_first, is_release_of, is_release, IsLegal, EachAfter, IsPlan}
 use Rattle.msrp_plan.specs.declared.ids.JobId.{JobId}
 use Rattle.msrp_plan.specs.declared.rows.Kind.{Kind}
 use Rattle.msrp_plan.specs.declared.rows.Kind.TheVariants.{Take, Queue, Spin, Grant, Release}
 use Rattle.msrp_plan.specs.declared.rows.Row.{Row}
-use Rattle.std.proofs.Common.{refl, ap, sym, ◌∙◌, subst, arith}
+use Rattle.std.proofs.Common.{◌≡◌, ◌&&◌, ◌∷◌, ◌++◌, refl, ap, sym, ◌∙◌, subst, arith}
 use Rattle.std.proofs.Math.Bool.{true≢false}
 use Rattle.msrp_plan.specs.Laws.{IsHeldByOne}
 use Rattle.msrp_plan.proofs.Jobs.JobTests.{row_of_job}

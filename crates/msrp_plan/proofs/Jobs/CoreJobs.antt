@@ -1,7 +1,7 @@
 -- The jobs of a core, by the tests that name them.
-use Rattle.msrp_plan.specs.Common.{◌≡◌, ℕ, ◌<◌, true, ◌==◌, Option, Some, None, IsSome, length, map, nat_lt, AllByRecursion, Contains, range_with_len, PlanModel, core_of, release, release_tick, jobs, jobs_of, jobs_on, job_at}
+use Rattle.msrp_plan.specs.Common.{ℕ, true, Option, Some, None, IsSome, length, map, nat_lt, AllByRecursion, Contains, range_with_len, PlanModel, core_of, release, release_tick, jobs, jobs_of, jobs_on, job_at}
 use Rattle.msrp_plan.specs.declared.ids.JobId.{JobId}
-use Rattle.std.proofs.Common.{ap, sym, subst, refl, arith, unwrap_or}
+use Rattle.std.proofs.Common.{◌≡◌, ◌<◌, ◌==◌, ap, sym, subst, refl, arith, unwrap_or}
 use Rattle.std.proofs.lemmas.Bool.{eqb-true, ltb-true}
 use Rattle.std.proofs.lemmas.List.Elements.{All-contains, All-from_recursion, filter_passes, recursion_from_All}
 use Rattle.std.proofs.lemmas.Map.Views.{Contains-from_any}

@@ -1,7 +1,7 @@
 -- The jobs of a task, and of a core, as lists.
-use Rattle.msrp_plan.specs.Common.{◌≡◌, ℕ, zero, suc, ◌+◌, ◌<◌, ◌≤◌, ◌==◌, Bool, true, false, cond, List, [], ◌∷◌, ◌++◌, map, nat_lt, length, AllByRecursion, Contains, filter, flat_map, range_with_len, PlanModel, task_at, core_of, release, units, jobs_of, jobs_on, IsPlan}
+use Rattle.msrp_plan.specs.Common.{ℕ, zero, suc, Bool, true, false, cond, List, [], map, nat_lt, length, AllByRecursion, Contains, filter, flat_map, range_with_len, PlanModel, task_at, core_of, release, units, jobs_of, jobs_on, IsPlan}
 use Rattle.msrp_plan.specs.declared.ids.JobId.{JobId}
-use Rattle.std.proofs.Common.{refl, ap, ◌∙◌, arith}
+use Rattle.std.proofs.Common.{◌≡◌, ◌+◌, ◌<◌, ◌≤◌, ◌==◌, ◌∷◌, ◌++◌, refl, ap, ◌∙◌, arith}
 use Rattle.std.proofs.lemmas.List.Elements.{All-contains, All-from_recursion, filter-append}
 pub use Rattle.msrp_plan.specs.Jobs.{job_at}
 use Rattle.msrp_plan.proofs.Lists.Least.{all_filtered}

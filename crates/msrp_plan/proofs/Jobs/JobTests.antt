@@ -1,8 +1,8 @@
 -- What the tests of jobs and of their rows say of which job it is.
-use Rattle.msrp_plan.specs.Common.{◌≡◌, true, ◌&&◌, ◌==◌, Option, Some, None, same_job, is_job, is_row_of}
+use Rattle.msrp_plan.specs.Common.{true, Option, Some, None, same_job, is_job, is_row_of}
 use Rattle.msrp_plan.specs.declared.ids.JobId.{JobId}
 use Rattle.msrp_plan.specs.declared.rows.Row.{Row}
-use Rattle.std.proofs.Common.{refl, ap, sym, ◌∙◌, arith, eq-eqb}
+use Rattle.std.proofs.Common.{◌≡◌, ◌&&◌, ◌==◌, refl, ap, sym, ◌∙◌, arith, eq-eqb}
 
 -- jobs that pass the test are one
 pub same_is : (i j : JobId) → same_job i j ≡ true → i ≡ j

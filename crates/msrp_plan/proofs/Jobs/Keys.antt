@@ -1,7 +1,7 @@
 -- The order of the jobs' keys: total, so that of two jobs one is before the other.
-use Rattle.msrp_plan.specs.Common.{◌≡◌, ℕ, false, is_lt, nat_cmp, ordering_then, PlanModel, key, is_before, key_cmp}
+use Rattle.msrp_plan.specs.Common.{ℕ, false, is_lt, nat_cmp, ordering_then, PlanModel, key, is_before, key_cmp}
 use Rattle.msrp_plan.specs.declared.ids.JobId.{JobId}
-use Rattle.std.proofs.Common.{refl, ap, sym, ◌∙◌, Ordering}
+use Rattle.std.proofs.Common.{◌≡◌, refl, ap, sym, ◌∙◌, Ordering}
 use Rattle.std.specs.Cmp.{IsTotalOrder, IsStrictWeakOrder}
 use Rattle.std.specs.Ordering.{ordering_reverse}
 use Rattle.std.specs.declared.cmp.Ordering.TheVariants.{Less, Equal, Greater}

@@ -1,6 +1,6 @@
 -- The releases of a task rise, so those before a tick are the first few.
-use Rattle.msrp_plan.specs.Common.{◌≡◌, ℕ, zero, suc, ◌+◌, ◌-◌, ◌*◌, ◌<◌, ◌≤◌, nat_lt, Bool, true, false, cond, List, [], ◌∷◌, Option, Some, None, length, map, unwrap_or, slice_get, slice_index_or, filter, range_with_len, PlanModel, TaskModel, task_at, no_task, release, ReleaseTimes, Every, Listed, AreTimes, job_at, jobs_of}
-use Rattle.std.proofs.Common.{refl, ap, sym, ◌∙◌, subst, inl, inr, arith}
+use Rattle.msrp_plan.specs.Common.{ℕ, zero, suc, nat_lt, Bool, true, false, cond, List, [], Option, Some, None, length, map, unwrap_or, slice_get, slice_index_or, filter, range_with_len, PlanModel, TaskModel, task_at, no_task, release, ReleaseTimes, Every, Listed, AreTimes, job_at, jobs_of}
+use Rattle.std.proofs.Common.{◌≡◌, ◌+◌, ◌-◌, ◌*◌, ◌<◌, ◌≤◌, ◌∷◌, refl, ap, sym, ◌∙◌, subst, inl, inr, arith}
 use Rattle.std.specs.List.Sorted.{IsPartitionPoint, IsPartitionedBy, IsStrictlyIncreasing}
 use Rattle.std.proofs.Math.Nat.{mul-le-mul_right}
 use Rattle.std.proofs.lemmas.Bool.{cases_eq, cases_lt, lt-ltb, le-ltb, ltb-true, ltb-false, true≢false, false_from_ne_true}

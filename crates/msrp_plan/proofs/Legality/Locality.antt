@@ -1,8 +1,8 @@
 -- Which job has the turn, and what it does next, is told by the rows of its core alone.
-use Rattle.msrp_plan.specs.Common.{◌≡◌, ℕ, true, false, cond, not, ◌&&◌, ◌||◌, ◌==◌, List, map, Option, Some, None, length, max, take, filter, list_any, AllByRecursion, PlanModel, core_of, units, holds_after, jobs, jobs_on, is_row_of, is_waiting, same_job, is_started, is_queued, is_released, is_finished, holds, done, is_global, local_ceiling, greatest, top, ceiling, is_held_on, resources, is_before, least, head, running, chosen, choice, does_next, does_unit_after, is_of_core, is_chosen, is_next_action, same_choice, IsCoreTurn, is_of, log_of, JobState, state_after}
+use Rattle.msrp_plan.specs.Common.{ℕ, true, false, cond, not, List, map, Option, Some, None, length, max, take, filter, list_any, AllByRecursion, PlanModel, core_of, units, holds_after, jobs, jobs_on, is_row_of, is_waiting, same_job, is_started, is_queued, is_released, is_finished, holds, done, is_global, local_ceiling, greatest, top, ceiling, is_held_on, resources, is_before, least, head, running, chosen, choice, does_next, does_unit_after, is_of_core, is_chosen, is_next_action, same_choice, IsCoreTurn, is_of, log_of, JobState, state_after}
 use Rattle.msrp_plan.specs.declared.ids.JobId.{JobId}
 use Rattle.msrp_plan.specs.declared.rows.Row.{Row}
-use Rattle.std.proofs.Common.{refl, ap, sym, ◌∙◌, subst, eq-eqb}
+use Rattle.std.proofs.Common.{◌≡◌, ◌&&◌, ◌||◌, ◌==◌, refl, ap, sym, ◌∙◌, subst, eq-eqb}
 use Rattle.std.specs.List.{fold}
 use Rattle.std.proofs.lemmas.List.Elements.{recursion_from_All, All-contains, filter_passes, filter_agree}
 use Rattle.std.proofs.lemmas.Map.Views.{Contains-from_any}

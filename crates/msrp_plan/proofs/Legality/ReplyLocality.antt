@@ -1,9 +1,9 @@
 -- What a global resource replies is told by the rows on it alone.
-use Rattle.msrp_plan.specs.Common.{◌≡◌, ℕ, Bool, true, false, cond, List, [], ◌∷◌, Some, drop, filter_map, cons_option, is_on, is_release, is_release_of, requester, fifo, is_reply_of, replies_on, is_fifo_reply, rows_on}
+use Rattle.msrp_plan.specs.Common.{ℕ, Bool, true, false, cond, List, [], Some, drop, filter_map, cons_option, is_on, is_release, is_release_of, requester, fifo, is_reply_of, replies_on, is_fifo_reply, rows_on}
 use Rattle.msrp_plan.specs.declared.ids.JobId.{JobId}
 use Rattle.msrp_plan.specs.declared.ids.ResId.{ResId}
 use Rattle.msrp_plan.specs.declared.rows.Row.{Row}
-use Rattle.std.proofs.Common.{refl, ap, sym, ◌∙◌}
+use Rattle.std.proofs.Common.{◌≡◌, ◌∷◌, refl, ap, sym, ◌∙◌}
 use Rattle.std.proofs.lemmas.Bool.{and_parts}
 use Rattle.msrp_plan.proofs.Lists.Filters.{count_within, all_of}
 

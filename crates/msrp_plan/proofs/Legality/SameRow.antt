@@ -1,11 +1,11 @@
 -- Rows that show the same are equal.
-use Rattle.msrp_plan.specs.Common.{◌≡◌, ℕ, true, Option, has_shape, may_carry}
+use Rattle.msrp_plan.specs.Common.{ℕ, true, Option, has_shape, may_carry}
 use Rattle.msrp_plan.specs.declared.ids.JobId.{JobId}
 use Rattle.msrp_plan.specs.declared.ids.CoreId.{CoreId}
 use Rattle.msrp_plan.specs.declared.ids.ResId.{ResId}
 use Rattle.msrp_plan.specs.declared.rows.Kind.{Kind}
 use Rattle.msrp_plan.specs.declared.rows.Row.{Row}
-use Rattle.std.proofs.Common.{ap, sym, ◌∙◌, subst}
+use Rattle.std.proofs.Common.{◌≡◌, ap, sym, ◌∙◌, subst}
 use mathlib.Core.Bool.{Bool-set}
 
 -- tick, core, kind, job, resource and ahead

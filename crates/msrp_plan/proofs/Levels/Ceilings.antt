@@ -1,8 +1,8 @@
 -- What the current ceiling of a core is not below.
-use Rattle.msrp_plan.specs.Common.{◌≡◌, ℕ, ◌<◌, ◌≤◌, Bool, true, false, cond, not, ◌&&◌, ◌||◌, ◌==◌, List, length, list_any, Contains, PlanModel, TaskModel, task_of, core_of, jobs_on, holds, is_queued, is_global, local_ceiling, top, level, level_of, uses, resources, is_held_on, is_queued_on, ceiling}
+use Rattle.msrp_plan.specs.Common.{ℕ, Bool, true, false, cond, not, List, length, list_any, Contains, PlanModel, TaskModel, task_of, core_of, jobs_on, holds, is_queued, is_global, local_ceiling, top, level, level_of, uses, resources, is_held_on, is_queued_on, ceiling}
 use Rattle.msrp_plan.specs.declared.ids.JobId.{JobId}
 use Rattle.msrp_plan.specs.declared.rows.Row.{Row}
-use Rattle.std.proofs.Common.{ap, ◌∙◌, arith, eq-eqb}
+use Rattle.std.proofs.Common.{◌≡◌, ◌<◌, ◌≤◌, ◌&&◌, ◌||◌, ◌==◌, ap, ◌∙◌, arith, eq-eqb}
 use Rattle.std.proofs.Math.Bool.{or-true}
 use Rattle.msrp_plan.specs.Ceiling.{raised_with}
 use Rattle.msrp_plan.proofs.Lists.AnyAll.{any_in, in_range}

@@ -1,9 +1,9 @@
 -- Which resources are global: those whose users are apart, and none that isn't declared; and their marks.
-use Rattle.msrp_plan.specs.Common.{◌≡◌, ℕ, zero, suc, ◌+◌, ◌<◌, ◌≤◌, ◌==◌, Bool, true, false, not, ◌&&◌, ◌||◌, List, [], ◌∷◌, length, map, set, replicate, Some, Global, String, list_any, values_of, PlanModel, TaskModel, task_at, no_task, is_lock_of, uses, is_global}
+use Rattle.msrp_plan.specs.Common.{ℕ, zero, suc, Bool, true, false, not, List, [], length, map, set, replicate, Some, Global, String, list_any, values_of, PlanModel, TaskModel, task_at, no_task, is_lock_of, uses, is_global}
 use Rattle.msrp_plan.specs.declared.ids.ResId.{ResId}
 use Rattle.msrp_plan.specs.declared.tasks.Task.{Task}
 use Rattle.msrp_plan.specs.declared.units.Op.{Op}
-use Rattle.std.proofs.Common.{refl, ap, sym, ◌∙◌, inl, inr, arith}
+use Rattle.std.proofs.Common.{◌≡◌, ◌+◌, ◌<◌, ◌≤◌, ◌==◌, ◌&&◌, ◌||◌, ◌∷◌, refl, ap, sym, ◌∙◌, inl, inr, arith}
 use Rattle.std.specs.List.{slice_get}
 use Rattle.std.proofs.lemmas.Bool.{cases_Bool, cases_eq, cases_lt, and_parts, eqb-true, true≢false, false_from_ne_true}
 use Rattle.std.proofs.lemmas.List.{length-set, length-replicate, get_or-set_same, get_or-set_other}

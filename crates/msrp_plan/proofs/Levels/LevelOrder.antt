@@ -1,6 +1,6 @@
 -- Levels fall as relative deadlines grow.
-use Rattle.msrp_plan.specs.Common.{◌≡◌, ℕ, ◌≤◌, Bool, true, false, cond, List, [], ◌∷◌, map, length, nat_lt, nat_eq, filter, list_any, PlanModel, TaskModel, level_of}
-use Rattle.std.proofs.Common.{refl, sym, ◌∙◌, subst, arith}
+use Rattle.msrp_plan.specs.Common.{ℕ, Bool, true, false, cond, List, [], map, length, nat_lt, nat_eq, filter, list_any, PlanModel, TaskModel, level_of}
+use Rattle.std.proofs.Common.{◌≡◌, ◌≤◌, ◌∷◌, refl, sym, ◌∙◌, subst, arith}
 use Rattle.std.proofs.lemmas.Bool.{ltb-true, lt-ltb, eqb-true}
 use Rattle.msrp_plan.specs.Levels.{distinct}
 use Rattle.msrp_plan.proofs.Lists.Filters.{any_within, all_of}

@@ -1,6 +1,6 @@
 -- Filters, tests and counts of a list, where one test implies or equals another.
-use Rattle.msrp_plan.specs.Common.{◌≡◌, ◌+◌, Option, Bool, true, false, cond, ◌||◌, List, [], ◌∷◌, map, length, filter, filter_map, cons_option, list_any, AllByRecursion}
-use Rattle.std.proofs.Common.{refl, ap, sym, ◌∙◌}
+use Rattle.msrp_plan.specs.Common.{Option, Bool, true, false, cond, List, [], map, length, filter, filter_map, cons_option, list_any, AllByRecursion}
+use Rattle.std.proofs.Common.{◌≡◌, ◌+◌, ◌||◌, ◌∷◌, refl, ap, sym, ◌∙◌}
 use Rattle.std.specs.List.{count_by}
 use Rattle.std.proofs.lemmas.List.Sums.{length-filter}
 use Rattle.std.proofs.lemmas.List.Folds.{fold-map}

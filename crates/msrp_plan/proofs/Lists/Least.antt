@@ -1,6 +1,6 @@
 -- The least of a list, and where it comes from.
-use Rattle.msrp_plan.specs.Common.{◌≡◌, Bool, true, false, cond, List, [], ◌∷◌, Some, filter, AllByRecursion, least}
-use Rattle.std.proofs.Common.{subst}
+use Rattle.msrp_plan.specs.Common.{Bool, true, false, cond, List, [], Some, filter, AllByRecursion, least}
+use Rattle.std.proofs.Common.{◌≡◌, ◌∷◌, subst}
 use Rattle.std.specs.List.{best_of}
 use Rattle.std.proofs.lemmas.List.Elements.{recursion_from_All, All-from_recursion, All-filter}
 

@@ -1,6 +1,6 @@
 -- The least and the greatest of what a filter keeps of a list: which elements they are, and what they are below or above.
-use Rattle.msrp_plan.specs.Common.{◌≡◌, ℕ, ◌≤◌, Bool, true, false, cond, List, [], ◌∷◌, map, Some, None, max, filter, AllByRecursion, Contains, least, greatest}
-use Rattle.std.proofs.Common.{refl, subst, arith}
+use Rattle.msrp_plan.specs.Common.{ℕ, Bool, true, false, cond, List, [], map, Some, None, max, filter, AllByRecursion, Contains, least, greatest}
+use Rattle.std.proofs.Common.{◌≡◌, ◌≤◌, ◌∷◌, refl, subst, arith}
 use Rattle.std.specs.List.{fold, best_of}
 use Rattle.std.specs.Cmp.{IsStrictWeakOrder}
 use Rattle.std.proofs.lemmas.List.Elements.{recursion_from_All, All-from_recursion, All-contains, All-contains_itself, filter_passes}

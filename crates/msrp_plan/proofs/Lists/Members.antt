@@ -1,6 +1,6 @@
 -- Elements of lists: one that passes where some element does, those that a filter keeps, and one that reaches the greatest.
-use Rattle.msrp_plan.specs.Common.{◌≡◌, ℕ, ◌<◌, ◌≤◌, Bool, true, false, ◌||◌, List, [], ◌∷◌, map, max, ◌⊎◌, list_any, filter, Contains, greatest}
-use Rattle.std.proofs.Common.{refl, arith, inl, inr}
+use Rattle.msrp_plan.specs.Common.{ℕ, Bool, true, false, List, [], map, max, list_any, filter, Contains, greatest}
+use Rattle.std.proofs.Common.{◌≡◌, ◌<◌, ◌≤◌, ◌||◌, ◌∷◌, ◌⊎◌, refl, arith, inl, inr}
 use Rattle.std.specs.List.{fold}
 use Rattle.std.proofs.lemmas.Bool.{cases_lt}
 use Rattle.std.proofs.lemmas.List.Elements.{All-from_recursion, All-contains, All-contains_itself, recursion_from_All, Contains-append_right, filter_passes}

@@ -1,6 +1,6 @@
 -- What each element of a list meets over those before it: one element more, the parts of a list, one place.
-use Rattle.msrp_plan.specs.Common.{◌≡◌, List, [], ◌∷◌, ◌++◌, EachAfter}
-use Rattle.std.proofs.Common.{refl, ap, sym, subst, append-nil, append_assoc}
+use Rattle.msrp_plan.specs.Common.{List, [], EachAfter}
+use Rattle.std.proofs.Common.{◌≡◌, ◌∷◌, ◌++◌, refl, ap, sym, subst, append-nil, append_assoc}
 
 -- one element more at the end
 pub each_push : {X : Type 0} (P : List X → X → Type 0) (pre xs : List X) (x : X) → EachAfter P pre xs → P (pre ++ xs) x → EachAfter P pre (xs ++ x ∷ [])

@@ -1,10 +1,10 @@
 -- The rows that calls make leave a core as the calls do.
-use Rattle.msrp_plan.specs.Common.{◌≡◌, zero, suc, true, false, Some, claim_with, IsDueCall, kind_of_call}
+use Rattle.msrp_plan.specs.Common.{zero, suc, true, false, Some, claim_with, IsDueCall, kind_of_call}
 use Rattle.msrp_plan.specs.declared.ids.ResId.{ResId}
 use Rattle.msrp_plan.specs.declared.units.Call.{Call}
 use Rattle.msrp_plan.specs.declared.units.Call.TheVariants.{Ask, Poll, Leave}
 use Rattle.msrp_plan.specs.declared.units.Phase.{Phase}
-use Rattle.std.proofs.Common.{refl, sym}
+use Rattle.std.proofs.Common.{◌≡◌, refl, sym}
 use Rattle.msrp_plan.specs.Phases.{phase_with}
 
 -- a call that is due, and the row of its kind

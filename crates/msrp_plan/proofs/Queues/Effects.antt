@@ -1,13 +1,13 @@
 -- What a legal row does to a global resource: six effects, each with the stands of its job before and after,
 -- everyone else's unchanged, and the queue after it.
-use Rattle.msrp_plan.specs.Common.{◌≡◌, ℕ, ◌+◌, Bool, true, false, cond, not, ◌==◌, List, [], ◌∷◌, ◌++◌, Option, Some, None, slice_get, drop, list_any, PlanModel, units, is_lock_of, is_unlock_of, is_row_of, is_waiting, is_queued, done, is_job, is_global, is_global_unit, res_of_unit, is_on, fifo, replies, is_free, is_first, IsLegal, JobState, IsLocking, IsPlan}
+use Rattle.msrp_plan.specs.Common.{ℕ, Bool, true, false, cond, not, List, [], Option, Some, None, slice_get, drop, list_any, PlanModel, units, is_lock_of, is_unlock_of, is_row_of, is_waiting, is_queued, done, is_job, is_global, is_global_unit, res_of_unit, is_on, fifo, replies, is_free, is_first, IsLegal, JobState, IsLocking, IsPlan}
 use Rattle.msrp_plan.specs.declared.ids.JobId.{JobId}
 use Rattle.msrp_plan.specs.declared.ids.ResId.{ResId}
 use Rattle.msrp_plan.specs.declared.units.Op.{Op}
 use Rattle.msrp_plan.specs.declared.rows.Kind.{Kind}
 use Rattle.msrp_plan.specs.declared.rows.Kind.TheVariants.{Idle, Take, Queue, Spin, Grant, Release}
 use Rattle.msrp_plan.specs.declared.rows.Row.{Row}
-use Rattle.std.proofs.Common.{refl, ap, sym, ◌∙◌, subst, arith}
+use Rattle.std.proofs.Common.{◌≡◌, ◌+◌, ◌==◌, ◌∷◌, ◌++◌, refl, ap, sym, ◌∙◌, subst, arith}
 use Rattle.std.proofs.lemmas.Bool.{eqb-true, and_parts, not-true, false_from_ne_true}
 use Rattle.msrp_plan.specs.declared.units.Op.TheVariants.{Lock as LockUnit, Unlock as UnlockUnit}
 use Rattle.msrp_plan.proofs.Jobs.JobTests.{one_job}

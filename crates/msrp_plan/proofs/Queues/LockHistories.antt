@@ -1,5 +1,6 @@
 -- Histories of the one-thread lock: one call more at the end.
-use Rattle.msrp_plan.specs.Common.{ℕ, List, [], ◌∷◌, ◌++◌, FifoLock, Answers, lock_after}
+use Rattle.std.proofs.Common.{◌∷◌, ◌++◌}
+use Rattle.msrp_plan.specs.Common.{ℕ, List, [], FifoLock, Answers, lock_after}
 use Rattle.msrp_plan.specs.declared.units.Call.{Call}
 use Rattle.msrp_plan.specs.FifoLock.{LegalFrom}
 use Rattle.msrp_plan.specs.LockStates.{lock_from}

@@ -1,11 +1,11 @@
 -- Bounded overtaking: while a job waits for a global resource, those ahead of it in the queue come to hold it, each
 -- once, and nobody else does.
-use Rattle.msrp_plan.specs.Common.{◌≡◌, ℕ, ◌+◌, ◌<◌, ◌≤◌, Bool, true, false, cond, ◌&&◌, List, [], ◌∷◌, ◌++◌, Some, length, drop, Contains, list_any, PlanModel, is_row_of, is_queued, done, is_global, resources, is_global_unit, res_of_unit, fifo, is_first, is_on, is_free, IsLegal, IsRunStart, EachAfter, IsPlan, is_grant_of, is_grant}
+use Rattle.msrp_plan.specs.Common.{ℕ, Bool, true, false, cond, List, [], Some, length, drop, Contains, list_any, PlanModel, is_row_of, is_queued, done, is_global, resources, is_global_unit, res_of_unit, fifo, is_first, is_on, is_free, IsLegal, IsRunStart, EachAfter, IsPlan, is_grant_of, is_grant}
 use Rattle.msrp_plan.specs.declared.ids.JobId.{JobId}
 use Rattle.msrp_plan.specs.declared.rows.Kind.{Kind}
 use Rattle.msrp_plan.specs.declared.rows.Kind.TheVariants.{Run, Lock, Unlock, Take, Queue, Spin, Grant, Release}
 use Rattle.msrp_plan.specs.declared.rows.Row.{Row}
-use Rattle.std.proofs.Common.{refl, ap, sym, ◌∙◌, subst, arith, append_assoc, append-nil, length-append}
+use Rattle.std.proofs.Common.{◌≡◌, ◌+◌, ◌<◌, ◌≤◌, ◌&&◌, ◌∷◌, ◌++◌, refl, ap, sym, ◌∙◌, subst, arith, append_assoc, append-nil, length-append}
 use Rattle.std.specs.List.{count_by}
 use Rattle.std.proofs.Math.Bool.{true≢false}
 use Rattle.std.proofs.lemmas.Bool.{eqb-true, or_parts, false_from_ne_true}

@@ -1,12 +1,12 @@
 -- The queue of a global resource and the one-thread lock agree: at a turn of a core the queue replies what the lock
 -- answers, and after the turn they agree again.
-use Rattle.msrp_plan.specs.Common.{◌≡◌, ◌≢◌, ℕ, zero, suc, Bool, true, false, cond, not, ◌||◌, List, [], ◌∷◌, ◌++◌, Option, Some, None, IfSome, length, map, drop, list_any, Contains, AllByRecursion, PlanModel, core_of, jobs_on, is_job, same_job, holds, is_row_of, is_global, resources, fifo, replies, counts, is_free, is_first, is_on, IsLegal, IsCoreTurn, EachAfter, is_fifo_reply, replies_on, log_of, FifoLock, Answers, lock_after, kind_of_call, ahead_of_call, IsPlan}
+use Rattle.msrp_plan.specs.Common.{ℕ, zero, suc, Bool, true, false, cond, not, List, [], Option, Some, None, IfSome, length, map, drop, list_any, Contains, AllByRecursion, PlanModel, core_of, jobs_on, is_job, same_job, holds, is_row_of, is_global, resources, fifo, replies, counts, is_free, is_first, is_on, IsLegal, IsCoreTurn, EachAfter, is_fifo_reply, replies_on, log_of, FifoLock, Answers, lock_after, kind_of_call, ahead_of_call, IsPlan}
 use Rattle.msrp_plan.specs.declared.ids.JobId.{JobId}
 use Rattle.msrp_plan.specs.declared.rows.Kind.TheVariants.{Idle, Take, Queue, Spin, Grant, Release}
 use Rattle.msrp_plan.specs.declared.rows.Row.{Row}
 use Rattle.msrp_plan.specs.declared.units.Call.{Call}
 use Rattle.msrp_plan.specs.declared.units.Call.TheVariants.{Ask, Poll, Leave}
-use Rattle.std.proofs.Common.{refl, ap, sym, ◌∙◌, subst, arith, inl, inr, eq-eqb}
+use Rattle.std.proofs.Common.{◌≡◌, ◌≢◌, ◌||◌, ◌∷◌, ◌++◌, refl, ap, sym, ◌∙◌, subst, arith, inl, inr, eq-eqb}
 use Rattle.std.proofs.Math.Bool.{true≢false, or-true}
 use Rattle.std.proofs.lemmas.Bool.{cases_Bool, cases_lt, and_from, and_parts, false_from_ne_true}
 use Rattle.std.proofs.lemmas.List.{map-append, length-map}

@@ -1,10 +1,10 @@
 -- The jobs in the queue of a global resource: each holds it or waits for it, and they are of cores that differ.
-use Rattle.msrp_plan.specs.Common.{◌≡◌, ◌≢◌, ℕ, ◌<◌, ◌≤◌, Bool, true, false, List, [], ◌∷◌, ◌++◌, Some, length, drop, AllByRecursion, Contains, range_with_len, PlanModel, core_of, jobs_on, is_row_of, is_global, resources, fifo, is_first, IsLegal, EachAfter, IsPlan}
+use Rattle.msrp_plan.specs.Common.{ℕ, Bool, true, false, List, [], Some, length, drop, AllByRecursion, Contains, range_with_len, PlanModel, core_of, jobs_on, is_row_of, is_global, resources, fifo, is_first, IsLegal, EachAfter, IsPlan}
 use Rattle.msrp_plan.specs.declared.ids.JobId.{JobId}
 use Rattle.msrp_plan.specs.declared.rows.Kind.{Kind}
 use Rattle.msrp_plan.specs.declared.rows.Kind.TheVariants.{Take, Queue, Spin, Grant, Release}
 use Rattle.msrp_plan.specs.declared.rows.Row.{Row}
-use Rattle.std.proofs.Common.{refl, ap, sym, ◌∙◌, subst, arith}
+use Rattle.std.proofs.Common.{◌≡◌, ◌≢◌, ◌<◌, ◌≤◌, ◌∷◌, ◌++◌, refl, ap, sym, ◌∙◌, subst, arith}
 use Rattle.std.proofs.lemmas.List.FromFn.{length-range_with_len}
 use Rattle.msrp_plan.proofs.Lists.AnyAll.{all_weaker, all_both, all_push}
 use Rattle.msrp_plan.proofs.Jobs.JobTests.{same_is}

@@ -1,9 +1,9 @@
 -- Short queues: whoever joins one finds there at most one request for each other core.
-use Rattle.msrp_plan.specs.Common.{◌≡◌, ℕ, ◌+◌, ◌≤◌, true, List, [], ◌∷◌, ◌++◌, Option, Some, None, length, PlanModel, fifo, is_on, IsLegal, IsRunStart, EachAfter, IsPlan}
+use Rattle.msrp_plan.specs.Common.{ℕ, true, List, [], Option, Some, None, length, PlanModel, fifo, is_on, IsLegal, IsRunStart, EachAfter, IsPlan}
 use Rattle.msrp_plan.specs.declared.ids.JobId.{JobId}
 use Rattle.msrp_plan.specs.declared.rows.Kind.TheVariants.{Idle, Queue}
 use Rattle.msrp_plan.specs.declared.rows.Row.{Row}
-use Rattle.std.proofs.Common.{refl, ap, sym, ◌∙◌, arith, subst, length-append}
+use Rattle.std.proofs.Common.{◌≡◌, ◌+◌, ◌≤◌, ◌∷◌, ◌++◌, refl, ap, sym, ◌∙◌, arith, subst, length-append}
 use Rattle.msrp_plan.specs.Laws.{FindsShort, ShortQueues}
 use Rattle.msrp_plan.proofs.Lists.Prefixes.{each_before, each_from, each_at}
 use Rattle.msrp_plan.proofs.Legality.LegalRows.{legal_turn}

@@ -1,9 +1,9 @@
 -- A row is legal by the rows of its core and those on its resource: so turns of different cores that aren't on one
 -- resource commute.
-use Rattle.msrp_plan.specs.Common.{◌≡◌, ℕ, ◌/◌, Bool, true, false, cond, not, ◌&&◌, ◌||◌, ◌==◌, nat_lt, List, [], ◌∷◌, ◌++◌, length, Option, Some, None, filter, PlanModel, choice, does_next, is_on, fifo, is_reply_of, EachAfter, IsLegal, IsRunStart, is_in_turn, is_of_core, is_chosen, is_next_action, had_turn, same_choice, replies_on, is_of, log_of, rows_on}
+use Rattle.msrp_plan.specs.Common.{ℕ, Bool, true, false, cond, not, nat_lt, List, [], length, Option, Some, None, filter, PlanModel, choice, does_next, is_on, fifo, is_reply_of, EachAfter, IsLegal, IsRunStart, is_in_turn, is_of_core, is_chosen, is_next_action, had_turn, same_choice, replies_on, is_of, log_of, rows_on}
 use Rattle.msrp_plan.specs.declared.ids.ResId.{ResId}
 use Rattle.msrp_plan.specs.declared.rows.Row.{Row}
-use Rattle.std.proofs.Common.{refl, ap, sym, ◌∙◌, arith, eq-eqb, eqb-true, lt-ltb, length-append, append-nil, append_assoc}
+use Rattle.std.proofs.Common.{◌≡◌, ◌/◌, ◌&&◌, ◌||◌, ◌==◌, ◌∷◌, ◌++◌, refl, ap, sym, ◌∙◌, arith, eq-eqb, eqb-true, lt-ltb, length-append, append-nil, append_assoc}
 use Rattle.std.proofs.lemmas.Bool.{and_parts, false_from_ne_true}
 use Rattle.std.proofs.lemmas.List.Elements.{filter-append}
 use Rattle.msrp_plan.specs.Logs.{AreApart}

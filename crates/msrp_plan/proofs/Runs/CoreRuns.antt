@@ -1,7 +1,7 @@
 -- A legal run seen from one core: its rows by themselves are a run of the core, a row for each tick.
-use Rattle.msrp_plan.specs.Common.{◌≡◌, ◌≢◌, ℕ, ◌+◌, ◌*◌, ◌/◌, ◌<◌, Bool, true, false, cond, ◌||◌, ◌==◌, List, [], ◌∷◌, ◌++◌, length, list_any, PlanModel, EachAfter, IsLegal, IsRun, IsRunStart, IsCoreTurn, CoreRun, had_turn, is_of_core, same_choice, log_of}
+use Rattle.msrp_plan.specs.Common.{ℕ, Bool, true, false, cond, List, [], length, list_any, PlanModel, EachAfter, IsLegal, IsRun, IsRunStart, IsCoreTurn, CoreRun, had_turn, is_of_core, same_choice, log_of}
 use Rattle.msrp_plan.specs.declared.rows.Row.{Row}
-use Rattle.std.proofs.Common.{refl, ap, sym, ◌∙◌, subst, arith, append-nil, append_assoc, eq-eqb, eqb-true, length-append, mul_comm, inl, inr}
+use Rattle.std.proofs.Common.{◌≡◌, ◌≢◌, ◌+◌, ◌*◌, ◌/◌, ◌<◌, ◌||◌, ◌==◌, ◌∷◌, ◌++◌, refl, ap, sym, ◌∙◌, subst, arith, append-nil, append_assoc, eq-eqb, eqb-true, length-append, mul_comm, inl, inr}
 use Rattle.std.proofs.Math.Bool.{or-false, or-true, true≢false}
 use Rattle.std.proofs.lemmas.Nat.{div-mul-add}
 use Rattle.msrp_plan.proofs.Lists.AnyAll.{all_push}

@@ -1,7 +1,7 @@
 -- The runs of the cores, put together tick by tick in whatever order of the cores, are a legal run where the queues reply so.
-use Rattle.msrp_plan.specs.Common.{◌≡◌, ℕ, ◌*◌, ◌/◌, ◌<◌, true, cond, List, [], ◌∷◌, ◌++◌, length, AllByRecursion, PlanModel, EachAfter, IsLegal, IsRun, IsCoreTurn, CoreRun, is_fifo_reply, is_of, log_of}
+use Rattle.msrp_plan.specs.Common.{ℕ, true, cond, List, [], length, AllByRecursion, PlanModel, EachAfter, IsLegal, IsRun, IsCoreTurn, CoreRun, is_fifo_reply, is_of, log_of}
 use Rattle.msrp_plan.specs.declared.rows.Row.{Row}
-use Rattle.std.proofs.Common.{refl, ap, sym, ◌∙◌, subst, eq-eqb, append_assoc}
+use Rattle.std.proofs.Common.{◌≡◌, ◌*◌, ◌/◌, ◌<◌, ◌∷◌, ◌++◌, refl, ap, sym, ◌∙◌, subst, eq-eqb, append_assoc}
 use Rattle.std.proofs.lemmas.List.Elements.{filter-append}
 use Rattle.msrp_plan.specs.Logs.{IsNextTurn, AreInterleaved}
 use Rattle.msrp_plan.proofs.Lists.Prefixes.{each_at, each_push}

@@ -1,8 +1,8 @@
 -- Turns of the cores, put together tick by tick, are a legal run.
-use Rattle.msrp_plan.specs.Common.{◌≡◌, ◌≢◌, ℕ, ◌+◌, ◌*◌, ◌/◌, ◌<◌, ◌≤◌, ◌==◌, Bool, true, false, cond, not, ◌&&◌, List, [], ◌∷◌, ◌++◌, Option, Some, None, nat_lt, length, filter, range_with_len, AllByRecursion, PlanModel, EachAfter, IsLegal, is_of_core, had_turn, replies_on, is_of, log_of, ascending}
+use Rattle.msrp_plan.specs.Common.{ℕ, Bool, true, false, cond, not, List, [], Option, Some, None, nat_lt, length, filter, range_with_len, AllByRecursion, PlanModel, EachAfter, IsLegal, is_of_core, had_turn, replies_on, is_of, log_of, ascending}
 use Rattle.msrp_plan.specs.declared.ids.ResId.{ResId}
 use Rattle.msrp_plan.specs.declared.rows.Row.{Row}
-use Rattle.std.proofs.Common.{refl, ap, sym, ◌∙◌, arith, length-append, append-nil, eq-eqb}
+use Rattle.std.proofs.Common.{◌≡◌, ◌≢◌, ◌+◌, ◌*◌, ◌/◌, ◌<◌, ◌≤◌, ◌==◌, ◌&&◌, ◌∷◌, ◌++◌, refl, ap, sym, ◌∙◌, arith, length-append, append-nil, eq-eqb}
 use Rattle.std.proofs.lemmas.List.Elements.{filter-append, All-from_recursion}
 use Rattle.std.proofs.lemmas.List.Folds.{list_any_none}
 use Rattle.std.proofs.Math.Bool.{and-false}

@@ -1,7 +1,7 @@
 -- The rows of one tick: of cores that differ, and once each core has had its turn the next tick begins.
-use Rattle.msrp_plan.specs.Common.{◌≡◌, ◌≢◌, ℕ, ◌+◌, ◌*◌, ◌/◌, ◌<◌, ◌≤◌, Bool, true, false, cond, ◌&&◌, ◌||◌, ◌==◌, List, [], ◌∷◌, ◌++◌, length, ◌⊎◌, filter, list_any, AllByRecursion, range_with_len, PlanModel, IsLegal}
+use Rattle.msrp_plan.specs.Common.{ℕ, Bool, true, false, cond, List, [], length, filter, list_any, AllByRecursion, range_with_len, PlanModel, IsLegal}
 use Rattle.msrp_plan.specs.declared.rows.Row.{Row}
-use Rattle.std.proofs.Common.{refl, ap, sym, ◌∙◌, subst, arith, append-nil, length-append, inl, inr, eq-eqb}
+use Rattle.std.proofs.Common.{◌≡◌, ◌≢◌, ◌+◌, ◌*◌, ◌/◌, ◌<◌, ◌≤◌, ◌&&◌, ◌||◌, ◌==◌, ◌∷◌, ◌++◌, ◌⊎◌, refl, ap, sym, ◌∙◌, subst, arith, append-nil, length-append, inl, inr, eq-eqb}
 use Rattle.std.proofs.Math.Bool.{true≢false}
 use Rattle.std.proofs.lemmas.Bool.{cases_lt, eqb-true, or_parts, true_from_ne_false, false_from_ne_true}
 use Rattle.std.proofs.lemmas.Nat.{div-mul-add}

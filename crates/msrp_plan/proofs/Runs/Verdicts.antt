@@ -1,10 +1,10 @@
 -- What the verdict on a list of rows says of it.
-use Rattle.msrp_plan.specs.Common.{◌≡◌, ℕ, ◌+◌, ◌*◌, ◌<◌, ◌≤◌, Bool, true, false, cond, List, [], ◌∷◌, ◌++◌, length, Option, Some, None, nat_lt, ◌⊎◌, PlanModel, EachAfter, IsLegal, IsRun, IsRunStart, is_in_turn, is_of_core, is_chosen, is_next_action, is_fifo_reply, option_or, fault_in, verdict}
+use Rattle.msrp_plan.specs.Common.{ℕ, Bool, true, false, cond, List, [], length, Option, Some, None, nat_lt, PlanModel, EachAfter, IsLegal, IsRun, IsRunStart, is_in_turn, is_of_core, is_chosen, is_next_action, is_fifo_reply, option_or, fault_in, verdict}
 use Rattle.msrp_plan.specs.declared.faults.Fault.{Fault}
 use Rattle.msrp_plan.specs.declared.faults.Rule.{Rule}
 use Rattle.msrp_plan.specs.declared.faults.Rule.TheVariants.{A1, A2, A3, A4, A5, A6, A7}
 use Rattle.msrp_plan.specs.declared.rows.Row.{Row}
-use Rattle.std.proofs.Common.{refl, inl, inr, ap, sym, subst, ◌∙◌, arith, ltb-true, ltb-false, lt-ltb, le-ltb, length-append, append-nil, append_assoc}
+use Rattle.std.proofs.Common.{◌≡◌, ◌+◌, ◌*◌, ◌<◌, ◌≤◌, ◌∷◌, ◌++◌, ◌⊎◌, refl, inl, inr, ap, sym, subst, ◌∙◌, arith, ltb-true, ltb-false, lt-ltb, le-ltb, length-append, append-nil, append_assoc}
 use Rattle.msrp_plan.specs.Verdict.{broken, fault_or, refused, fault_from, missing}
 use Rattle.msrp_plan.specs.Faults.{IsBroken, IsCutShort, IsOneTooMany, IsFault}
 use Rattle.msrp_plan.proofs.Lists.Prefixes.{each_push, each_before, each_at}

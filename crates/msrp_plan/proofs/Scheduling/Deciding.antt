@@ -1,10 +1,10 @@
 -- What decides a core's choice (who runs, the head, the ceiling) in the tick after a row that works on, idles or polls in
 -- vain, where nobody is released.
-use Rattle.msrp_plan.specs.Common.{◌≡◌, ◌≢◌, ◌+◌, Bool, true, false, not, ◌&&◌, cond, List, [], ◌∷◌, ◌++◌, Option, Some, None, length, slice_get, PlanModel, units, done, is_finished, is_queued, is_released, is_row_of, is_started, is_waiting, jobs_on, JobState, state_after, allows, is_global_unit, ceiling, head, is_before, least, running, IsPlan, EachAfter, IsLegal}
+use Rattle.msrp_plan.specs.Common.{Bool, true, false, not, cond, List, [], Option, Some, None, length, slice_get, PlanModel, units, done, is_finished, is_queued, is_released, is_row_of, is_started, is_waiting, jobs_on, JobState, state_after, allows, is_global_unit, ceiling, head, is_before, least, running, IsPlan, EachAfter, IsLegal}
 use Rattle.msrp_plan.specs.declared.ids.JobId.{JobId}
 use Rattle.msrp_plan.specs.declared.rows.Kind.TheVariants.{Run, Spin}
 use Rattle.msrp_plan.specs.declared.rows.Row.{Row}
-use Rattle.std.proofs.Common.{refl, ap, sym, ◌∙◌, subst}
+use Rattle.std.proofs.Common.{◌≡◌, ◌≢◌, ◌+◌, ◌&&◌, ◌∷◌, ◌++◌, refl, ap, sym, ◌∙◌, subst}
 use Rattle.std.proofs.lemmas.Bool.{eqb-true, false_from_ne_true}
 use Rattle.msrp_plan.specs.Stretches.{NoneReleased}
 use Rattle.msrp_plan.specs.declared.units.Op.TheVariants.{Run as RunUnit}

@@ -1,7 +1,7 @@
 -- Each order of turns is that of one legal run, and the turns of each legal run are such an order.
-use Rattle.msrp_plan.specs.Common.{◌≡◌, ℕ, zero, suc, ◌+◌, ◌*◌, ◌<◌, ◌≤◌, ◌/◌, true, ◌&&◌, ◌==◌, List, [], ◌∷◌, ◌++◌, map, length, filter, range_with_len, PlanModel, carries_its_ahead, carries_ahead, log_of, core_order, ascending, IsLegal, IsRun, EachAfter, IsDueCore, IsOrder, IsPlan}
+use Rattle.msrp_plan.specs.Common.{ℕ, zero, suc, true, List, [], map, length, filter, range_with_len, PlanModel, carries_its_ahead, carries_ahead, log_of, core_order, ascending, IsLegal, IsRun, EachAfter, IsDueCore, IsOrder, IsPlan}
 use Rattle.msrp_plan.specs.declared.rows.Row.{Row}
-use Rattle.std.proofs.Common.{refl, ap, sym, ◌∙◌, subst, arith, length-append, append_assoc, append-nil, add-one, mul_comm}
+use Rattle.std.proofs.Common.{◌≡◌, ◌+◌, ◌*◌, ◌<◌, ◌≤◌, ◌/◌, ◌&&◌, ◌==◌, ◌∷◌, ◌++◌, refl, ap, sym, ◌∙◌, subst, arith, length-append, append_assoc, append-nil, add-one, mul_comm}
 use Rattle.std.specs.List.{count_by}
 use Rattle.std.proofs.lemmas.Bool.{and_from}
 use Rattle.std.proofs.lemmas.List.{map-append, length-map}

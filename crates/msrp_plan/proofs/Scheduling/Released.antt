@@ -1,8 +1,8 @@
 -- No job runs before its release: whoever starts is released, and ticks never fall.
-use Rattle.msrp_plan.specs.Common.{◌≡◌, ◌≤◌, ◌/◌, Bool, true, false, List, [], ◌∷◌, ◌++◌, length, PlanModel, release, is_row_of, is_started, IsLegal, IsRunStart, JobState}
+use Rattle.msrp_plan.specs.Common.{Bool, true, false, List, [], length, PlanModel, release, is_row_of, is_started, IsLegal, IsRunStart, JobState}
 use Rattle.msrp_plan.specs.declared.ids.JobId.{JobId}
 use Rattle.msrp_plan.specs.declared.rows.Row.{Row}
-use Rattle.std.proofs.Common.{refl, ap, sym, ◌∙◌, arith, inl, inr}
+use Rattle.std.proofs.Common.{◌≡◌, ◌≤◌, ◌/◌, ◌∷◌, ◌++◌, refl, ap, sym, ◌∙◌, arith, inl, inr}
 use Rattle.std.proofs.Math.Bool.{true≢false}
 use Rattle.msrp_plan.specs.Scheduling.{IsOfReleased, RunsReleased}
 use Rattle.msrp_plan.proofs.Jobs.JobTests.{is_job_is}

@@ -1,12 +1,12 @@
 -- A core's row that stands again in the next tick. After a row that works, idles or polls in vain, its own tick's choice
 -- still names its job; where nobody is released the next tick's choice is the same.
-use Rattle.msrp_plan.specs.Common.{◌≡◌, ℕ, ◌+◌, ◌≤◌, ◌<◌, Bool, true, false, cond, not, ◌&&◌, ◌||◌, List, [], ◌∷◌, ◌++◌, map, Option, Some, None, nat_lt, length, max, slice_get, filter, list_any, AllByRecursion, Contains, PlanModel, task_of, release, units, no_task, has_shape, jobs_on, is_row_of, is_waiting, is_released, is_started, is_finished, is_queued, done, holds, JobState, state_after, is_global, local_ceiling, greatest, top, level, ceiling, is_held_on, is_queued_on, resources, is_before, least, head, running, chosen, choice, allows, does_next, does_unit, does_unit_after, same_res, is_global_unit, IsCoreTurn, same_choice, in_tick, HasWork}
+use Rattle.msrp_plan.specs.Common.{ℕ, Bool, true, false, cond, not, List, [], map, Option, Some, None, nat_lt, length, max, slice_get, filter, list_any, AllByRecursion, Contains, PlanModel, task_of, release, units, no_task, has_shape, jobs_on, is_row_of, is_waiting, is_released, is_started, is_finished, is_queued, done, holds, JobState, state_after, is_global, local_ceiling, greatest, top, level, ceiling, is_held_on, is_queued_on, resources, is_before, least, head, running, chosen, choice, allows, does_next, does_unit, does_unit_after, same_res, is_global_unit, IsCoreTurn, same_choice, in_tick, HasWork}
 use Rattle.msrp_plan.specs.declared.ids.JobId.{JobId}
 use Rattle.msrp_plan.specs.declared.ids.ResId.{ResId}
 use Rattle.msrp_plan.specs.declared.units.Op.{Op}
 use Rattle.msrp_plan.specs.declared.rows.Kind.TheVariants.{Idle, Run, Spin}
 use Rattle.msrp_plan.specs.declared.rows.Row.{Row}
-use Rattle.std.proofs.Common.{refl, ap, sym, ◌∙◌, subst, arith, length-append, inl, inr}
+use Rattle.std.proofs.Common.{◌≡◌, ◌+◌, ◌≤◌, ◌<◌, ◌&&◌, ◌||◌, ◌∷◌, ◌++◌, refl, ap, sym, ◌∙◌, subst, arith, length-append, inl, inr}
 use Rattle.std.proofs.Math.Bool.{true≢false}
 use Rattle.std.proofs.lemmas.Bool.{cases_lt, leb-true, le-leb, eqb-true, false_from_ne_true}
 use Rattle.std.proofs.lemmas.List.Elements.{Contains-get_or, recursion_from_All, All-from_recursion, All-contains, All-contains_itself, filter_agree}

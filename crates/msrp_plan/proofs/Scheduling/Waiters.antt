@@ -1,9 +1,9 @@
 -- Who waits for a global resource stands in its queue.
-use Rattle.msrp_plan.specs.Common.{◌≡◌, ℕ, Bool, true, false, ◌||◌, List, [], ◌∷◌, ◌++◌, Some, drop, list_any, PlanModel, is_row_of, is_job, is_global, fifo, is_first, IsLegal, EachAfter, IsPlan}
+use Rattle.msrp_plan.specs.Common.{ℕ, Bool, true, false, List, [], Some, drop, list_any, PlanModel, is_row_of, is_job, is_global, fifo, is_first, IsLegal, EachAfter, IsPlan}
 use Rattle.msrp_plan.specs.declared.ids.JobId.{JobId}
 use Rattle.msrp_plan.specs.declared.rows.Kind.TheVariants.{Take, Queue, Spin, Grant, Release}
 use Rattle.msrp_plan.specs.declared.rows.Row.{Row}
-use Rattle.std.proofs.Common.{refl, ap, sym, ◌∙◌, subst}
+use Rattle.std.proofs.Common.{◌≡◌, ◌||◌, ◌∷◌, ◌++◌, refl, ap, sym, ◌∙◌, subst}
 use Rattle.std.proofs.Math.Bool.{true≢false, or-true}
 use Rattle.msrp_plan.proofs.Lists.AnyAll.{any_push}
 use Rattle.msrp_plan.proofs.Jobs.JobTests.{same_self, row_of_job}

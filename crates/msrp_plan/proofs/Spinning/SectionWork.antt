@@ -1,12 +1,12 @@
 -- The rows that a job still has to make until it lets go of a resource.
-use Rattle.msrp_plan.specs.Common.{zero, suc, ◌≡◌, ℕ, ◌+◌, ◌≤◌, Bool, true, false, cond, not, ◌&&◌, ◌==◌, List, [], ◌∷◌, ◌++◌, Some, max, length, slice_get, drop, take, is_global_unit, res_of_unit, section, done, is_queued, is_row_of, is_waiting, is_global, uses, PlanModel, TaskModel, core_of, task_of, units, is_on, JobState, holds_after, is_lock_of, is_unlock_of, locks, unlocks, IsPlan}
+use Rattle.msrp_plan.specs.Common.{zero, suc, ℕ, Bool, true, false, cond, not, List, [], Some, max, length, slice_get, drop, take, is_global_unit, res_of_unit, section, done, is_queued, is_row_of, is_waiting, is_global, uses, PlanModel, TaskModel, core_of, task_of, units, is_on, JobState, holds_after, is_lock_of, is_unlock_of, locks, unlocks, IsPlan}
 use Rattle.msrp_plan.specs.declared.ids.JobId.{JobId}
 use Rattle.msrp_plan.specs.declared.ids.ResId.{ResId}
 use Rattle.msrp_plan.specs.declared.rows.Kind.{Kind}
 use Rattle.msrp_plan.specs.declared.rows.Kind.TheVariants.{Grant, Queue, Spin, Take}
 use Rattle.msrp_plan.specs.declared.rows.Row.{Row}
 use Rattle.msrp_plan.specs.declared.units.Op.{Op}
-use Rattle.std.proofs.Common.{refl, ap, sym, ◌∙◌, arith, eq-eqb, length-drop, inl, inr}
+use Rattle.std.proofs.Common.{◌≡◌, ◌+◌, ◌≤◌, ◌&&◌, ◌==◌, ◌∷◌, ◌++◌, refl, ap, sym, ◌∙◌, arith, eq-eqb, length-drop, inl, inr}
 use Rattle.std.proofs.Math.Bool.{true≢false}
 use Rattle.std.proofs.lemmas.Bool.{le-ltb}
 use Rattle.std.proofs.lemmas.Option.{get_or_from_slice_get, slice_get_within}

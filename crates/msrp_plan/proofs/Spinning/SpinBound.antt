@@ -1,9 +1,9 @@
 -- The bound on spinning: in one wait a job spins no more often than the plan tells.
-use Rattle.msrp_plan.specs.Common.{◌≡◌, ◌≢◌, ℕ, ◌+◌, ◌<◌, ◌≤◌, Bool, true, false, cond, not, ◌&&◌, ◌||◌, ◌==◌, List, [], ◌∷◌, ◌++◌, Some, AllByRecursion, sum_by, filter, range_with_len, section, spin_bound, IsWait, is_spin_of, PlanModel, core_of, fifo, is_on, EachAfter, IsLegal, IsRunStart, IsPlan}
+use Rattle.msrp_plan.specs.Common.{ℕ, Bool, true, false, cond, not, List, [], Some, AllByRecursion, sum_by, filter, range_with_len, section, spin_bound, IsWait, is_spin_of, PlanModel, core_of, fifo, is_on, EachAfter, IsLegal, IsRunStart, IsPlan}
 use Rattle.msrp_plan.specs.declared.ids.JobId.{JobId}
 use Rattle.msrp_plan.specs.declared.rows.Kind.TheVariants.{Grant, Queue, Release, Spin, Take}
 use Rattle.msrp_plan.specs.declared.rows.Row.{Row}
-use Rattle.std.proofs.Common.{refl, ap, sym, ◌∙◌, subst, arith, append_assoc, inl, inr, eq-eqb}
+use Rattle.std.proofs.Common.{◌≡◌, ◌≢◌, ◌+◌, ◌<◌, ◌≤◌, ◌&&◌, ◌||◌, ◌==◌, ◌∷◌, ◌++◌, refl, ap, sym, ◌∙◌, subst, arith, append_assoc, inl, inr, eq-eqb}
 use Rattle.std.specs.List.{count_by}
 use Rattle.std.proofs.Math.Bool.{true≢false}
 use Rattle.std.proofs.lemmas.Bool.{eqb-true}

@@ -1,11 +1,11 @@
 -- How often a waiting job spins: at the end of each tick the spins so far and the work ahead are within the work that was ahead at first.
-use Rattle.msrp_plan.specs.Common.{◌≡◌, ◌≢◌, ℕ, ◌+◌, ◌<◌, ◌≤◌, Bool, true, false, cond, ◌||◌, ◌==◌, List, [], ◌∷◌, ◌++◌, Some, drop, slice_get, ◌⊎◌, AllByRecursion, Contains, list_any, resources, is_row_of, done, is_grant, is_grant_of, is_spin, is_spin_of, is_global, PlanModel, core_of, units, is_lock_of, res_of_unit, fifo, is_first, is_on, EachAfter, IsLegal, IsPlan}
+use Rattle.msrp_plan.specs.Common.{ℕ, Bool, true, false, cond, List, [], Some, drop, slice_get, AllByRecursion, Contains, list_any, resources, is_row_of, done, is_grant, is_grant_of, is_spin, is_spin_of, is_global, PlanModel, core_of, units, is_lock_of, res_of_unit, fifo, is_first, is_on, EachAfter, IsLegal, IsPlan}
 use Rattle.msrp_plan.specs.declared.ids.JobId.{JobId}
 use Rattle.msrp_plan.specs.declared.rows.Kind.{Kind}
 use Rattle.msrp_plan.specs.declared.rows.Kind.TheVariants.{Grant, Queue, Release, Spin, Take}
 use Rattle.msrp_plan.specs.declared.rows.Row.{Row}
 use Rattle.msrp_plan.specs.declared.units.Op.{Op}
-use Rattle.std.proofs.Common.{refl, ap, sym, ◌∙◌, subst, arith, append_assoc, inl, inr, eq-eqb}
+use Rattle.std.proofs.Common.{◌≡◌, ◌≢◌, ◌+◌, ◌<◌, ◌≤◌, ◌||◌, ◌==◌, ◌∷◌, ◌++◌, ◌⊎◌, refl, ap, sym, ◌∙◌, subst, arith, append_assoc, inl, inr, eq-eqb}
 use Rattle.std.specs.List.{count_by}
 use Rattle.std.proofs.Math.Bool.{true≢false}
 use Rattle.std.proofs.lemmas.Bool.{eqb-true, and_parts, or_parts}

@@ -1,8 +1,8 @@
 -- How units nest: one unit more, and what is held by how often each resource was locked and unlocked.
-use Rattle.msrp_plan.specs.Common.{◌≡◌, ℕ, suc, zero, ◌+◌, ◌<◌, ◌≤◌, ◌==◌, nat_eq, Bool, true, false, cond, List, [], ◌∷◌, ◌++◌, length, take, replicate, Option, Some, None, ◌⊎◌, count_by, list_any, option_and_then, PlanModel, locks, unlocks, is_lock_of, is_unlock_of, held_with, held_after, IsLocking, IsNestedAt}
+use Rattle.msrp_plan.specs.Common.{ℕ, suc, zero, nat_eq, Bool, true, false, cond, List, [], length, take, replicate, Option, Some, None, count_by, list_any, option_and_then, PlanModel, locks, unlocks, is_lock_of, is_unlock_of, held_with, held_after, IsLocking, IsNestedAt}
 use Rattle.msrp_plan.specs.declared.ids.ResId.{ResId}
 use Rattle.msrp_plan.specs.declared.units.Op.{Op}
-use Rattle.std.proofs.Common.{refl, ap, sym, subst, ◌∙◌, inl, inr, arith, eqb-true, append_assoc}
+use Rattle.std.proofs.Common.{◌≡◌, ◌+◌, ◌<◌, ◌≤◌, ◌==◌, ◌∷◌, ◌++◌, ◌⊎◌, refl, ap, sym, subst, ◌∙◌, inl, inr, arith, eqb-true, append_assoc}
 use Rattle.std.specs.List.{fold, slice_get}
 use Rattle.std.proofs.lemmas.Bool.{cases_lt, or_parts}
 use Rattle.std.proofs.lemmas.Option.{same_Some, none-some}

@@ -1,7 +1,7 @@
 -- What a well-formed plan says of the units of any task number, also of one that it lacks: that has no unit.
-use Rattle.msrp_plan.specs.Common.{◌≡◌, ℕ, ◌<◌, ◌≤◌, List, [], Some, length, slice_get, Contains, PlanModel, TaskModel, no_task, task_at, locks, unlocks, IsLocking, IsPlan}
+use Rattle.msrp_plan.specs.Common.{ℕ, List, [], Some, length, slice_get, Contains, PlanModel, TaskModel, no_task, task_at, locks, unlocks, IsLocking, IsPlan}
 use Rattle.msrp_plan.specs.declared.units.Op.{Op}
-use Rattle.std.proofs.Common.{refl, ap, sym, ◌∙◌, subst, inl, inr}
+use Rattle.std.proofs.Common.{◌≡◌, ◌<◌, ◌≤◌, refl, ap, sym, ◌∙◌, subst, inl, inr}
 use Rattle.std.proofs.lemmas.Bool.{cases_lt}
 use Rattle.std.proofs.lemmas.List.{get_or_past}
 use Rattle.std.proofs.lemmas.List.Elements.{Contains-get_or}

@@ -1,9 +1,9 @@
 -- How a job stands to a resource: it holds it, waits for it in its queue, or neither.
-use Rattle.msrp_plan.specs.Common.{◌≡◌, ℕ, Bool, true, false, cond, ◌&&◌, List, [], ◌∷◌, ◌++◌, Option, Some, None, slice_get, ◌⊎◌, PlanModel, units, is_lock_of, is_row_of, is_queued, done, holds, JobState}
+use Rattle.msrp_plan.specs.Common.{ℕ, Bool, true, false, cond, List, [], Option, Some, None, slice_get, PlanModel, units, is_lock_of, is_row_of, is_queued, done, holds, JobState}
 use Rattle.msrp_plan.specs.declared.ids.JobId.{JobId}
 use Rattle.msrp_plan.specs.declared.units.Op.{Op}
 use Rattle.msrp_plan.specs.declared.rows.Row.{Row}
-use Rattle.std.proofs.Common.{refl, ap, ◌∙◌, inl, inr}
+use Rattle.std.proofs.Common.{◌≡◌, ◌&&◌, ◌∷◌, ◌++◌, ◌⊎◌, refl, ap, ◌∙◌, inl, inr}
 use Rattle.std.proofs.lemmas.Bool.{and_parts}
 use Rattle.msrp_plan.proofs.Jobs.States.{state_kept}
 use Rattle.msrp_plan.proofs.TaskUnits.UnitCounts.{held_in}

@@ -1,10 +1,10 @@
 -- Which units a row of each kind does: the table of kinds, read from the kind.
-use Rattle.msrp_plan.specs.Common.{◌≡◌, Bool, true, false, allows}
+use Rattle.msrp_plan.specs.Common.{Bool, true, false, allows}
 use Rattle.msrp_plan.specs.declared.ids.ResId.{ResId}
 use Rattle.msrp_plan.specs.declared.units.Op.{Op}
 use Rattle.msrp_plan.specs.declared.rows.Kind.{Kind}
 use Rattle.msrp_plan.specs.declared.rows.Kind.TheVariants.{Run, Lock, Unlock, Take, Queue, Spin, Grant, Release}
-use Rattle.std.proofs.Common.{refl}
+use Rattle.std.proofs.Common.{◌≡◌, refl}
 use Rattle.msrp_plan.specs.declared.units.Op.TheVariants.{Run as RunUnit, Lock as LockUnit, Unlock as UnlockUnit}
 
 -- a unit with a kind that it allows: whether its resource is global, and whether its job is queued

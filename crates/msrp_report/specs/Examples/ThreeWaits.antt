@@ -1,5 +1,6 @@
 -- A job that waits three times: it spins once, twice and once.
-use Rattle.msrp_plan.specs.Common.{List, [], ◌∷◌, ◌++◌, codes, PlanModel}
+use Rattle.std.specs.Prelude.{◌∷◌, ◌++◌}
+use Rattle.msrp_plan.specs.Common.{List, [], codes, PlanModel}
 use Rattle.msrp_plan.specs.declared.ids.JobId.{JobId}
 use Rattle.msrp_plan.specs.declared.rows.Row.{Row}
 use Rattle.msrp_plan.specs.Examples.Notation.{task, section, job, idle, run, take, queue, spin, grant, release}

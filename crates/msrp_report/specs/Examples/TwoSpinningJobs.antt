@@ -1,5 +1,6 @@
 -- Two jobs of one task that spin once each.
-use Rattle.msrp_plan.specs.Common.{ℕ, List, [], ◌∷◌, codes, PlanModel}
+use Rattle.std.specs.Prelude.{◌∷◌}
+use Rattle.msrp_plan.specs.Common.{ℕ, List, [], codes, PlanModel}
 use Rattle.msrp_plan.specs.declared.ids.JobId.{JobId}
 use Rattle.msrp_plan.specs.declared.rows.Row.{Row}
 use Rattle.msrp_plan.specs.Examples.Notation.{task, section, job, idle, run, take, queue, spin, grant, release}

@@ -1,10 +1,10 @@
 -- What the rows tell of one job, row by row.
-use Rattle.msrp_plan.specs.Common.{ℕ, List, Option, Some, None, not, fold, max, unwrap_or, ◌+◌, ◌^◌, ◌<◌, ◌≤◌, ⊤, if◌then◌else◌, is_row_of, is_waiting, is_spin}
+use Rattle.msrp_plan.specs.Common.{ℕ, List, Option, Some, None, not, fold, max, unwrap_or, ⊤, is_row_of, is_waiting, is_spin}
 use Rattle.msrp_plan.specs.declared.ids.JobId.{JobId}
 use Rattle.msrp_plan.specs.declared.rows.Kind.{Kind}
 use Rattle.msrp_plan.specs.declared.rows.Kind.TheVariants.{Queue, Spin, Grant}
 use Rattle.msrp_plan.specs.declared.rows.Row.{Row}
-use Rattle.std.specs.Prelude.{filter}
+use Rattle.std.specs.Prelude.{◌+◌, ◌^◌, ◌<◌, ◌≤◌, if◌then◌else◌, filter}
 use Rattle.msrp_report.specs.declared.counts.JobCount.{JobCount}
 
 -- the spins of the open wait, after a row of this kind

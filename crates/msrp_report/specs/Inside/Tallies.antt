@@ -1,5 +1,6 @@
 -- What is kept of each job while the rows come, and what it says of the rows so far.
-use Rattle.msrp_plan.specs.Common.{ℕ, List, ◌∷◌, [], ◌++◌, Bool, true, false, not, ◌&&◌, ◌==◌, nat_le, nat_lt, Option, Some, None, IsSome, map, count_by, length, slice_get, vec_capacity, ◌≡◌, ◌<◌, ◌≤◌, ◌+◌, ◌/◌, if◌then◌else◌, All, AllByRecursion, Contains, list_any, range_with_len, IsNonDecreasingBy, IsPermutation, PlanModel, task_at, release, release_tick, is_before, jobs, job_at, jobs_of, jobs_on, same_job, is_started, is_finished, blocked, first_later, IsRunStart, IsPlan}
+use Rattle.std.specs.Prelude.{◌∷◌, ◌++◌, ◌&&◌, ◌==◌, ◌≡◌, ◌<◌, ◌≤◌, ◌+◌, ◌/◌, if◌then◌else◌}
+use Rattle.msrp_plan.specs.Common.{ℕ, List, [], Bool, true, false, not, nat_le, nat_lt, Option, Some, None, IsSome, map, count_by, length, slice_get, vec_capacity, All, AllByRecursion, Contains, list_any, range_with_len, IsNonDecreasingBy, IsPermutation, PlanModel, task_at, release, release_tick, is_before, jobs, job_at, jobs_of, jobs_on, same_job, is_started, is_finished, blocked, first_later, IsRunStart, IsPlan}
 use Rattle.msrp_plan.specs.declared.ids.JobId.{JobId}
 use Rattle.msrp_plan.specs.declared.rows.Kind.{Kind}
 use Rattle.msrp_plan.specs.declared.rows.Row.{Row}

@@ -1,5 +1,6 @@
 -- The line of a task, job by job.
-use Rattle.msrp_plan.specs.Common.{max, ◌+◌, ◌^◌, ◌<◌, if◌then◌else◌}
+use Rattle.std.specs.Prelude.{◌+◌, ◌^◌, ◌<◌, if◌then◌else◌}
+use Rattle.msrp_plan.specs.Common.{max}
 use Rattle.msrp_report.specs.declared.lines.Line.{Line}
 use Rattle.msrp_report.specs.declared.numbers.JobNumbers.{JobNumbers}
 

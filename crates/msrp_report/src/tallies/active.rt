@@ -1,7 +1,7 @@
 //! The jobs of each core that are started and unfinished.
 
-ghost use Rattle.msrp_plan.specs.Common.{◌≡◌, ◌<◌, ◌++◌, ◌∷◌, [], ◌&&◌, cond, not, List, IfOk, IfSome, Some, length, vec_capacity, AllByRecursion, first_later, comes_first, is_before, same_job, core_of};
-ghost use Rattle.std.specs.Prelude.{filter};
+ghost use Rattle.msrp_plan.specs.Common.{[], cond, not, List, IfOk, IfSome, Some, length, vec_capacity, AllByRecursion, first_later, comes_first, is_before, same_job, core_of};
+ghost use Rattle.std.specs.Prelude.{◌≡◌, ◌<◌, ◌++◌, ◌∷◌, ◌&&◌, filter};
 ghost use Rattle.msrp_plan.specs.declared.rows.Row.{Row as TraceRow};
 ghost use Rattle.msrp_report.specs.Inside.Tallies.{AreActive, AreActiveOf, IsKnown};
 

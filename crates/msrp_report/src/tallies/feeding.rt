@@ -1,5 +1,6 @@
 //! One row more.
-ghost use Rattle.msrp_plan.specs.Common.{◌≡◌, ◌+◌, ◌++◌, ◌∷◌, [], ℕ, List, Some, false, not, is_started, PlanModel, IsRunStart, IsPlan};
+ghost use Rattle.std.specs.Prelude.{◌≡◌, ◌+◌, ◌++◌, ◌∷◌};
+ghost use Rattle.msrp_plan.specs.Common.{[], ℕ, List, Some, false, not, is_started, PlanModel, IsRunStart, IsPlan};
 ghost use Rattle.msrp_plan.specs.declared.rows.Row.{Row as TraceRow};
 ghost use Rattle.msrp_report.specs.Inside.Tallies.{AreActive, AreReleases, AreTallies, Counts, CountsAs, GoesOn, HasTallied, IsNextOf, Reaches, ToldOf};
 

@@ -1,6 +1,7 @@
 //! The releases of a tick, before its first row.
 
-ghost use Rattle.msrp_plan.specs.Common.{◌≡◌, ◌<◌, ◌+◌, ℕ, List, true, length, slice_set, Contains, IsNonDecreasingBy, IsPermutation, first_later, jobs, jobs_of, IsPlan};
+ghost use Rattle.std.specs.Prelude.{◌≡◌, ◌<◌, ◌+◌};
+ghost use Rattle.msrp_plan.specs.Common.{ℕ, List, true, length, slice_set, Contains, IsNonDecreasingBy, IsPermutation, first_later, jobs, jobs_of, IsPlan};
 ghost use Rattle.msrp_plan.specs.declared.rows.Row.{Row as TraceRow};
 ghost use Rattle.msrp_report.specs.Inside.Tallies.{AreActive, AreReleases, AreTallies, HasReleased, ReleasesNext, ToldBy, blocking_by, due_count, is_due, release_or_end};
 

@@ -1,6 +1,7 @@
 //! Before the first row.
 
-ghost use Rattle.msrp_plan.specs.Common.{◌≡◌, ◌<◌, ◌≤◌, [], List, IfOk, length, IsPlan};
+ghost use Rattle.std.specs.Prelude.{◌≡◌, ◌<◌, ◌≤◌};
+ghost use Rattle.msrp_plan.specs.Common.{[], List, IfOk, length, IsPlan};
 ghost use Rattle.msrp_report.specs.Inside.Tallies.{AreReleases, AreTallies, HasTallied, IsTaskTally};
 ghost use Rattle.msrp_report.specs.declared.tallies.TaskTally.{TaskTally};
 

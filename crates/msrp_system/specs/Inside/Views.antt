@@ -1,5 +1,6 @@
 -- What a clause sees of a system as it is stored.
-use Rattle.msrp_plan.specs.Common.{ℕ, Bool, List, not, ◌&&◌, ◌==◌, list_any, map, length, range_with_len, ◌≡◌, ◌<◌, ◌≤◌, PlanModel, TaskModel, task_at, level_of, uses, is_global, local_ceiling, top}
+use Rattle.std.specs.Prelude.{◌&&◌, ◌==◌, ◌≡◌, ◌<◌, ◌≤◌}
+use Rattle.msrp_plan.specs.Common.{ℕ, Bool, List, not, list_any, map, length, range_with_len, PlanModel, TaskModel, task_at, level_of, uses, is_global, local_ceiling, top}
 use Rattle.msrp_system.specs.Systems.{system_of, most_cores, most_tasks, most_resources, most_steps}
 use Rattle.msrp_system.specs.declared.parts.Parts.TheInside as parts
 use Rattle.msrp_system.specs.declared.systems.System.TheInside as system

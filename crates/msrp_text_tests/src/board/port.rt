@@ -1,6 +1,7 @@
 //! A port over a core's seat, as a core's turn on a board needs it: its five calls keep the promises of a port, from
 //! what the board and the seat tell alone.
-ghost use Rattle.msrp_plan.specs.Common.{◌≡◌, ◌<◌, ◌∷◌, ◌++◌, claim_after};
+ghost use Rattle.std.specs.Prelude.{◌≡◌, ◌<◌, ◌∷◌, ◌++◌};
+ghost use Rattle.msrp_plan.specs.Common.{claim_after};
 ghost use Rattle.msrp_plan.specs.declared.units.Call.TheVariants.{Ask, Poll, Leave};
 ghost use Rattle.msrp_plan.specs.declared.units.Phase.TheVariants.{Free, Queued, Holding};
 ghost use Rattle.msrp_board.specs.SeatPorts.{port_calls, port_room, AddsCall, IsPort};

@@ -1,6 +1,7 @@
 //! Two cores on one thread: their turns are made one by one on a board, in an order that is chosen here, and the trace is made of their
 //! logs and of the places that the board told.
-ghost use Rattle.msrp_plan.specs.Common.{◌≡◌, ◌+◌, ◌<◌, ℕ, IfOk, Some};
+ghost use Rattle.std.specs.Prelude.{◌≡◌, ◌+◌, ◌<◌};
+ghost use Rattle.msrp_plan.specs.Common.{ℕ, IfOk, Some};
 ghost use Rattle.msrp_board.specs.declared.books.Conductor.TheVariants.{Opened};
 ghost use Rattle.msrp_merge.specs.Merging.{size_of};
 ghost use Rattle.msrp_run.specs.Threads.{HasRest, HasOthers};

@@ -1,5 +1,6 @@
 -- The rows of a trace's text, or why they can't be had.
-use Rattle.msrp_plan.specs.Common.{◌≡◌, ◌⊎◌, ℕ, List, [], Option, Some, None, Err, IsOkAnd, Result, PlanModel}
+use Rattle.std.specs.Prelude.{◌≡◌, ◌⊎◌}
+use Rattle.msrp_plan.specs.Common.{ℕ, List, [], Option, Some, None, Err, IsOkAnd, Result, PlanModel}
 use Rattle.msrp_plan.specs.declared.rows.Row.{Row}
 use Rattle.msrp_plan.specs.declared.traces.Trace.{Trace}
 use Rattle.msrp_trace.specs.Reading.{Told}

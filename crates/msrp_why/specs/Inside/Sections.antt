@@ -1,5 +1,6 @@
 -- Where the jobs of a task have a section open, as it is stored.
-use Rattle.msrp_plan.specs.Common.{ℕ, List, Bool, Some, ◌≡◌, count_by, length, map, nat_lt, slice_get, take, PlanModel, task_at}
+use Rattle.std.specs.Prelude.{◌≡◌}
+use Rattle.msrp_plan.specs.Common.{ℕ, List, Bool, Some, count_by, length, map, nat_lt, slice_get, take, PlanModel, task_at}
 use Rattle.msrp_plan.specs.declared.units.Op.{Op}
 use Rattle.msrp_why.specs.Exercise.{is_lock, is_unlock}
 use Rattle.msrp_why.specs.declared.sections.Sections.{Sections}

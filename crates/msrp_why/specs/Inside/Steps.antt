@@ -1,5 +1,6 @@
 -- What is noted of a resource, one row more on it.
-use Rattle.msrp_plan.specs.Common.{ℕ, List, [], Some, ◌≡◌, ◌&&◌, length, max, not, slice_get, PlanModel}
+use Rattle.std.specs.Prelude.{◌≡◌, ◌&&◌}
+use Rattle.msrp_plan.specs.Common.{ℕ, List, [], Some, length, max, not, slice_get, PlanModel}
 use Rattle.msrp_plan.specs.declared.rows.Row.{Row}
 use Rattle.msrp_why.specs.Exercise.{is_entry, is_grant, is_in_tick, is_queue, one_if}
 use Rattle.msrp_why.specs.Noted.{IsNoted}

@@ -1,5 +1,6 @@
 -- A turn, by the state of its core before it.
-use Rattle.msrp_plan.specs.Common.{ℕ, Bool, false, ◌&&◌, ◌+◌, ◌<◌, ◌≡◌, Option, Some, None, PlanModel}
+use Rattle.std.specs.Prelude.{◌&&◌, ◌+◌, ◌<◌, ◌≡◌}
+use Rattle.msrp_plan.specs.Common.{ℕ, Bool, false, Option, Some, None, PlanModel}
 use Rattle.msrp_plan.specs.declared.ids.JobId.{JobId}
 use Rattle.msrp_plan.specs.declared.rows.Kind.{Kind}
 use Rattle.msrp_plan.specs.declared.rows.Kind.TheVariants.{Idle, Run, Spin}

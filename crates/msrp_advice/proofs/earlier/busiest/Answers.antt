@@ -1,4 +1,5 @@
-use Rattle.msrp_plan.proofs.Common.{rules, ◌≡◌, ◌∙◌, ◌+◌, ◌<◌, true, false, ap, map, nat_lt, sym, subst, le-ltb, lt-ltb}
+use Rattle.std.proofs.Common.{◌≡◌, ◌∙◌, ◌+◌, ◌<◌}
+use Rattle.msrp_plan.proofs.Common.{rules, true, false, ap, map, nat_lt, sym, subst, le-ltb, lt-ltb}
 use Rattle.std.specs.Option.{IfSome}
 use Rattle.csv.specs.Records.{fields_of}
 use Rattle.msrp_advice.specs.Earlier.{greatest_place, jobs_told, number_there}

@@ -1,4 +1,5 @@
-use Rattle.msrp_plan.proofs.Common.{◌≡◌, ◌<◌, map}
+use Rattle.std.proofs.Common.{◌≡◌, ◌<◌}
+use Rattle.msrp_plan.proofs.Common.{map}
 use Rattle.std.specs.Option.{IfSome}
 use Rattle.csv.specs.Records.{fields_of}
 use Rattle.msrp_advice.specs.Earlier as spec

@@ -1,4 +1,5 @@
-use Rattle.msrp_plan.proofs.Common.{◌≤◌, [], ℕ, List, ap, arith, length, map, sym, get_or_past, length-map}
+use Rattle.std.proofs.Common.{◌≤◌}
+use Rattle.msrp_plan.proofs.Common.{[], ℕ, List, ap, arith, length, map, sym, get_or_past, length-map}
 use Rattle.csv.specs.Records.{field_at, fields_of}
 use Rattle.msrp_text.specs.Reading.{number_told}
 use Rattle.msrp_advice.proofs.earlier.ticks_told.Goals as goal

@@ -1,4 +1,5 @@
-use Rattle.msrp_plan.proofs.Common.{◌∙◌, ◌-◌, ◌≤◌, ap, arith, drop, length, length-drop, sym, if◌then◌else◌, take_all}
+use Rattle.std.proofs.Common.{◌∙◌, ◌-◌, ◌≤◌, if◌then◌else◌}
+use Rattle.msrp_plan.proofs.Common.{ap, arith, drop, length, length-drop, sym, take_all}
 use Rattle.msrp_advice.proofs.Counting.{stripped}
 use Rattle.msrp_advice.proofs.lines.after_mark.Goals as goal
 

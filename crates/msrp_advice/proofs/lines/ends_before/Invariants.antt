@@ -1,4 +1,4 @@
-use Rattle.msrp_plan.proofs.Common.{◌≡◌, ◌≤◌}
+use Rattle.std.proofs.Common.{◌≡◌, ◌≤◌}
 use Rattle.msrp_advice.specs.Lines.{count_below, ends_line}
 use Rattle.msrp_advice.proofs.lines.ends_before.Given as goal
 

@@ -1,4 +1,5 @@
-use Rattle.msrp_plan.proofs.Common.{◌∙◌, ◌+◌, ℕ, Some, ap, sym, option_map}
+use Rattle.std.proofs.Common.{◌∙◌, ◌+◌}
+use Rattle.msrp_plan.proofs.Common.{ℕ, Some, ap, sym, option_map}
 use Rattle.msrp_advice.specs.Lines.{count_below, ends_line}
 use Rattle.msrp_advice.proofs.lines.line_in.Goals as goal
 

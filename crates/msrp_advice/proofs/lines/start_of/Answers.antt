@@ -1,4 +1,5 @@
-use Rattle.msrp_plan.proofs.Common.{rules, ◌≡◌, ◌∙◌, ◌+◌, ap, arith, ◌&&◌, ◌==◌}
+use Rattle.std.proofs.Common.{◌≡◌, ◌∙◌, ◌+◌, ◌&&◌, ◌==◌}
+use Rattle.msrp_plan.proofs.Common.{rules, ap, arith}
 use Rattle.msrp_advice.specs.Lines.{begins_line, count_below, is_quote, is_start}
 use Rattle.msrp_advice.proofs.Counting.{count-bound, count-none, counted, place-bound, placed}
 use Rattle.msrp_advice.proofs.Seeking.{last-none}

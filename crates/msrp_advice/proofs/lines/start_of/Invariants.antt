@@ -1,4 +1,4 @@
-use Rattle.msrp_plan.proofs.Common.{◌≡◌, ◌<◌, ◌≤◌}
+use Rattle.std.proofs.Common.{◌≡◌, ◌<◌, ◌≤◌}
 use Rattle.std.specs.Option.{IfSome}
 use Rattle.msrp_advice.specs.Lines.{begins_line, count_below, is_quote, is_start}
 use Rattle.msrp_advice.specs.Nested.{last_place}

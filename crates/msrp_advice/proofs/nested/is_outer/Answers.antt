@@ -1,4 +1,5 @@
-use Rattle.msrp_plan.proofs.Common.{◌≡◌, ◌∙◌, List, ℕ, Bool, true, false, ap, map, sym, take, ◌&&◌, take-map}
+use Rattle.std.proofs.Common.{◌≡◌, ◌∙◌, ◌&&◌}
+use Rattle.msrp_plan.proofs.Common.{List, ℕ, Bool, true, false, ap, map, sym, take, take-map}
 use Rattle.csv.specs.Records.{fields_of}
 use Rattle.msrp_advice.specs.Nested.{is_shared}
 use Rattle.msrp_advice.specs.Records.{is_left}

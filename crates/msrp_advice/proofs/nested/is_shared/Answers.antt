@@ -1,4 +1,5 @@
-use Rattle.msrp_plan.proofs.Common.{◌∙◌, ◌<◌, arith, length, map}
+use Rattle.std.proofs.Common.{◌∙◌, ◌<◌}
+use Rattle.msrp_plan.proofs.Common.{arith, length, map}
 use Rattle.csv.specs.Records.{fields_of}
 use Rattle.msrp_advice.specs.Nested.{is_elsewhere}
 use Rattle.msrp_advice.proofs.Counting.{any-so-far, core-more, core-none, elsewhere-is, none-below}

@@ -1,4 +1,5 @@
-use Rattle.msrp_plan.proofs.Common.{◌≡◌, map}
+use Rattle.std.proofs.Common.{◌≡◌}
+use Rattle.msrp_plan.proofs.Common.{map}
 use Rattle.csv.specs.Records.{fields_of}
 use Rattle.msrp_advice.specs.Nested.{any_below, core_at, is_elsewhere}
 use Rattle.msrp_advice.proofs.nested.is_shared.Given as goal

@@ -1,4 +1,5 @@
-use Rattle.msrp_plan.proofs.Common.{◌≡◌, map}
+use Rattle.std.proofs.Common.{◌≡◌}
+use Rattle.msrp_plan.proofs.Common.{map}
 use Rattle.csv.specs.Records.{fields_of}
 use Rattle.msrp_advice.specs.Nested.{any_below, is_outer}
 use Rattle.msrp_advice.proofs.nested.is_within.Given as goal

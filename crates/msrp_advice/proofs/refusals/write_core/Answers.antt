@@ -1,4 +1,5 @@
-use Rattle.msrp_plan.proofs.Common.{◌++◌, [], ap, sym, ◌∙◌, codes, decimal, if◌then◌else◌, wrote-more}
+use Rattle.std.proofs.Common.{◌++◌, ◌∙◌, if◌then◌else◌}
+use Rattle.msrp_plan.proofs.Common.{[], ap, sym, codes, decimal, wrote-more}
 use Rattle.msrp_text.proofs.Written.{wrote-as}
 use Rattle.msrp_advice.proofs.refusals.write_core.Goals as goal
 

@@ -1,4 +1,5 @@
-use Rattle.msrp_plan.proofs.Common.{◌∙◌, ap, map, wrote-more}
+use Rattle.std.proofs.Common.{◌∙◌}
+use Rattle.msrp_plan.proofs.Common.{ap, map, wrote-more}
 use Rattle.csv.specs.Records.{fields_of}
 use Rattle.msrp_text.proofs.Written.{wrote-as}
 use Rattle.msrp_advice.specs.Earlier.{earlier_of, known_advice}

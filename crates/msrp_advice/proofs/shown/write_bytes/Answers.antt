@@ -1,4 +1,5 @@
-use Rattle.msrp_plan.proofs.Common.{[], ◌∷◌, slice_index}
+use Rattle.std.proofs.Common.{◌∷◌}
+use Rattle.msrp_plan.proofs.Common.{[], slice_index}
 use Rattle.msrp_advice.specs.Shown.{shown_byte}
 use Rattle.msrp_advice.proofs.Parts.{wrote-part}
 use Rattle.msrp_advice.proofs.shown.write_bytes.Goals as goal

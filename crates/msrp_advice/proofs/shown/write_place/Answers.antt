@@ -1,4 +1,5 @@
-use Rattle.msrp_plan.proofs.Common.{◌∙◌, [], ap, sym, wrote-more}
+use Rattle.std.proofs.Common.{◌∙◌}
+use Rattle.msrp_plan.proofs.Common.{[], ap, sym, wrote-more}
 use Rattle.std.specs.Prelude.{unwrap_or}
 use Rattle.csv.specs.Records.{fields_of}
 use Rattle.msrp_text.proofs.Written.{wrote-as}

@@ -1,4 +1,5 @@
-use Rattle.msrp_plan.proofs.Common.{◌∙◌, ap, sym, ◌||◌}
+use Rattle.std.proofs.Common.{◌∙◌, ◌||◌}
+use Rattle.msrp_plan.proofs.Common.{ap, sym}
 use Rattle.msrp_advice.specs.Warnings.{has_deadline}
 use Rattle.msrp_advice.proofs.Parts.{any-more}
 use Rattle.msrp_advice.proofs.warnings.any_has_deadline.Goals as goal

@@ -1,4 +1,5 @@
-use Rattle.msrp_plan.proofs.Common.{◌≡◌, list_any, range_with_len}
+use Rattle.std.proofs.Common.{◌≡◌}
+use Rattle.msrp_plan.proofs.Common.{list_any, range_with_len}
 use Rattle.msrp_advice.specs.Warnings.{has_deadline}
 use Rattle.msrp_advice.proofs.warnings.any_has_deadline.Given as goal
 

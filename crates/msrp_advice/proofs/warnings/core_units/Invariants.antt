@@ -1,4 +1,5 @@
-use Rattle.msrp_plan.proofs.Common.{◌≡◌, ◌≤◌, ◌*◌, range_with_len, sum_by}
+use Rattle.std.proofs.Common.{◌≡◌, ◌≤◌, ◌*◌}
+use Rattle.msrp_plan.proofs.Common.{range_with_len, sum_by}
 use Rattle.msrp_advice.specs.Warnings.{units_of}
 use Rattle.msrp_advice.proofs.warnings.core_units.Given as goal
 

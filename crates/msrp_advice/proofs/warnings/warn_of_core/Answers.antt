@@ -1,4 +1,5 @@
-use Rattle.msrp_plan.proofs.Common.{◌≡◌, ◌∙◌, true, ap, sym, ◌==◌, wrote-more, top}
+use Rattle.std.proofs.Common.{◌≡◌, ◌∙◌, ◌==◌}
+use Rattle.msrp_plan.proofs.Common.{true, ap, sym, wrote-more, top}
 use Rattle.msrp_advice.proofs.Parts.{warned}
 use Rattle.msrp_advice.proofs.warnings.warn_of_core.Goals as goal
 

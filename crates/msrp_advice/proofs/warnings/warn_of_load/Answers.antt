@@ -1,4 +1,5 @@
-use Rattle.msrp_plan.proofs.Common.{◌≡◌, true, nat_lt, lt-ltb, wrote-more}
+use Rattle.std.proofs.Common.{◌≡◌}
+use Rattle.msrp_plan.proofs.Common.{true, nat_lt, lt-ltb, wrote-more}
 use Rattle.msrp_advice.specs.Warnings.{core_units}
 use Rattle.msrp_advice.proofs.Parts.{warned}
 use Rattle.msrp_advice.proofs.warnings.warn_of_load.Goals as goal

@@ -1,4 +1,5 @@
-use Rattle.msrp_plan.proofs.Common.{◌≡◌, ◌∙◌, true, length, ap, sym, ◌==◌, wrote-more, jobs_of}
+use Rattle.std.proofs.Common.{◌≡◌, ◌∙◌, ◌==◌}
+use Rattle.msrp_plan.proofs.Common.{true, length, ap, sym, wrote-more, jobs_of}
 use Rattle.msrp_advice.proofs.Parts.{warned}
 use Rattle.msrp_advice.proofs.warnings.warn_of_no_job.Goals as goal
 

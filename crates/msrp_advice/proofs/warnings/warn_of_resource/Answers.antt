@@ -1,4 +1,5 @@
-use Rattle.msrp_plan.proofs.Common.{◌≡◌, ◌∙◌, [], true, length, ap, sym, ◌==◌, length-map, get_or_from_slice_get, wrote-more, PlanModel}
+use Rattle.std.proofs.Common.{◌≡◌, ◌∙◌, ◌==◌}
+use Rattle.msrp_plan.proofs.Common.{[], true, length, ap, sym, length-map, get_or_from_slice_get, wrote-more, PlanModel}
 use Rattle.msrp_plan.specs.declared.ids.TaskId.{TaskId}
 use Rattle.msrp_levels.specs.Users.{users}
 use Rattle.msrp_advice.proofs.Parts.{warned}

@@ -1,4 +1,5 @@
-use Rattle.msrp_plan.proofs.Common.{◌≡◌, ◌∙◌, true, ap, length, sym, not, list_any, range_with_len, wrote-more}
+use Rattle.std.proofs.Common.{◌≡◌, ◌∙◌}
+use Rattle.msrp_plan.proofs.Common.{true, ap, length, sym, not, list_any, range_with_len, wrote-more}
 use Rattle.msrp_advice.specs.Warnings.{has_deadline}
 use Rattle.msrp_advice.proofs.Parts.{warned}
 use Rattle.msrp_advice.proofs.warnings.warn_of_ticks.Goals as goal

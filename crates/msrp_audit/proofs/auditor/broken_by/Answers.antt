@@ -1,4 +1,5 @@
-use Rattle.msrp_plan.proofs.Common.{sym, ◌∙◌}
+use Rattle.std.proofs.Common.{◌∙◌}
+use Rattle.msrp_plan.proofs.Common.{sym}
 use Rattle.msrp_audit.proofs.Judging.{as_due, none_of, refused_is, unrefused}
 use Rattle.msrp_audit.proofs.auditor.broken_by.Goals.{else-is_some-via-then-is_some+else-not-is_own, else-is_some-via-else-is_some}
 use Rattle.msrp_audit.proofs.auditor.broken_by.Goals as goal

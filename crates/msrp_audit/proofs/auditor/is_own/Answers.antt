@@ -1,4 +1,5 @@
-use Rattle.msrp_plan.proofs.Common.{eq-eqb, eqb-true, nat_lt, ap, sym, ◌∙◌, arith}
+use Rattle.std.proofs.Common.{◌∙◌}
+use Rattle.msrp_plan.proofs.Common.{eq-eqb, eqb-true, nat_lt, ap, sym, arith}
 use Rattle.msrp_audit.proofs.Judging.{own_is, no_task_is, other_core_is}
 use Rattle.msrp_audit.proofs.auditor.is_own.Goals as goal
 use Rattle.msrp_plan.proofs.Tests.{not_held, held}

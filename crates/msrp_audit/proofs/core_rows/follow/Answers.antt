@@ -1,4 +1,5 @@
-use Rattle.msrp_plan.proofs.Common.{sym, ◌∙◌, subst, IsCoreTurn, log_of}
+use Rattle.std.proofs.Common.{◌∙◌}
+use Rattle.msrp_plan.proofs.Common.{sym, subst, IsCoreTurn, log_of}
 use Rattle.msrp_audit.proofs.Following.{follows, stands_on}
 use Rattle.msrp_audit.proofs.core_rows.follow.Goals as goal
 

@@ -1,6 +1,6 @@
 use Rattle.msrp_audit.proofs.Judging.{turn_by_tick}
 use Rattle.msrp_audit.proofs.Turned.{due_tick}
-use Rattle.msrp_plan.proofs.Common.{◌∙◌}
+use Rattle.std.proofs.Common.{◌∙◌}
 use Rattle.msrp_audit.proofs.core_rows.is_in_turn.Goals as goal
 
 pub returns-then-is_in_tick-clause-turn : goal.returns-then-is_in_tick-clause-turn

@@ -1,4 +1,5 @@
-use Rattle.msrp_plan.proofs.Common.{◌≡◌, ◌≢◌, ◌<◌, ◌++◌, ◌∷◌, [], true, length, take, ap, sym, ◌∙◌, subst, arith, eqb-true, eqb-false, length-take-le, is_of, log_of, IsRunStart, is_in_turn}
+use Rattle.std.proofs.Common.{◌≡◌, ◌≢◌, ◌<◌, ◌++◌, ◌∷◌, ◌∙◌}
+use Rattle.msrp_plan.proofs.Common.{[], true, length, take, ap, sym, subst, arith, eqb-true, eqb-false, length-take-le, is_of, log_of, IsRunStart, is_in_turn}
 use Rattle.msrp_plan.specs.declared.rows.Row.{Row}
 use Rattle.msrp_core.specs.Machine.{MachineModel, StandsAfter}
 use Rattle.msrp_audit.specs.Inside.Pieces.{broken_on_core}

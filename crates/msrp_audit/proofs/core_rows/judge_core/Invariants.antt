@@ -1,4 +1,5 @@
-use Rattle.msrp_plan.proofs.Common.{◌≡◌, take, log_of, IsRunStart}
+use Rattle.std.proofs.Common.{◌≡◌}
+use Rattle.msrp_plan.proofs.Common.{take, log_of, IsRunStart}
 use Rattle.msrp_core.specs.Machine.{StandsAfter}
 use Rattle.msrp_audit.specs.Inside.Pieces.{broken_on_core}
 use Rattle.msrp_audit.proofs.Scanning.{PassesTo}

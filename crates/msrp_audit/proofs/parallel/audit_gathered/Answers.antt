@@ -1,4 +1,5 @@
-use Rattle.msrp_plan.proofs.Common.{◌∙◌, ap, take}
+use Rattle.std.proofs.Common.{◌∙◌}
+use Rattle.msrp_plan.proofs.Common.{ap, take}
 use Rattle.msrp_audit.proofs.parallel.audit_gathered.Goals as goal
 
 pub returns : goal.returns

@@ -1,4 +1,5 @@
-use Rattle.msrp_plan.proofs.Common.{◌≡◌, ◌*◌, ◌∙◌, ap, arith, min, take, length}
+use Rattle.std.proofs.Common.{◌≡◌, ◌*◌, ◌∙◌}
+use Rattle.msrp_plan.proofs.Common.{ap, arith, min, take, length}
 use Rattle.msrp_audit.proofs.Merging.{take_due}
 use Rattle.msrp_audit.proofs.parallel.audit_parallel.Goals as goal
 

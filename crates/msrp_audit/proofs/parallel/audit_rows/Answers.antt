@@ -1,4 +1,5 @@
-use Rattle.msrp_plan.proofs.Common.{◌*◌, ◌∙◌, ap, sym, fault_in}
+use Rattle.std.proofs.Common.{◌*◌, ◌∙◌}
+use Rattle.msrp_plan.proofs.Common.{ap, sym, fault_in}
 use Rattle.msrp_audit.specs.Audits.{answer_of}
 use Rattle.msrp_audit.specs.Inside.Pieces.{length_fault_of}
 use Rattle.msrp_audit.proofs.Merging.{due_fault, by_length}

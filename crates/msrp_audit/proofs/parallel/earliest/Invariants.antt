@@ -1,4 +1,5 @@
-use Rattle.msrp_plan.proofs.Common.{◌≡◌, take}
+use Rattle.std.proofs.Common.{◌≡◌}
+use Rattle.msrp_plan.proofs.Common.{take}
 use Rattle.msrp_audit.specs.Inside.Pieces.{earliest_of}
 use Rattle.msrp_audit.proofs.parallel.earliest.Given as goal
 

@@ -1,4 +1,5 @@
-use Rattle.msrp_plan.proofs.Common.{◌≡◌, ◌≤◌, ◌<◌, ◌*◌, ◌-◌, ◌∙◌, ℕ, length, map, ap, arith, subst, Option, List, Ok, IfOk, range_with_len}
+use Rattle.std.proofs.Common.{◌≡◌, ◌≤◌, ◌<◌, ◌*◌, ◌-◌, ◌∙◌}
+use Rattle.msrp_plan.proofs.Common.{ℕ, length, map, ap, arith, subst, Option, List, Ok, IfOk, range_with_len}
 use Rattle.msrp_plan.specs.declared.faults.Fault.{Fault}
 use Rattle.std.specs.List.{AllZip}
 use Rattle.rayon.specs.Numbers.{nat_range}

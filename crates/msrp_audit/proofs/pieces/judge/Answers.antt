@@ -1,4 +1,5 @@
-use Rattle.msrp_plan.proofs.Common.{◌∙◌, sym, subst, IfOk}
+use Rattle.std.proofs.Common.{◌∙◌}
+use Rattle.msrp_plan.proofs.Common.{sym, subst, IfOk}
 use Rattle.msrp_audit.specs.Inside.Pieces.{broken_in, TellsFirst}
 use Rattle.msrp_audit.proofs.Merging.{core_known, resource_known}
 use Rattle.msrp_audit.proofs.pieces.judge.Goals as goal

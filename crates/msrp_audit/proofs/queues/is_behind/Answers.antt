@@ -1,4 +1,5 @@
-use Rattle.msrp_plan.proofs.Common.{◌≡◌, ◌&&◌, not, false, List, [], ◌∷◌, None, refl, ap, sym, ◌∙◌, list_any, is_job, is_behind, is_first}
+use Rattle.std.proofs.Common.{◌≡◌, ◌&&◌, ◌∷◌, ◌∙◌}
+use Rattle.msrp_plan.proofs.Common.{not, false, List, [], None, refl, ap, sym, list_any, is_job, is_behind, is_first}
 use Rattle.msrp_plan.specs.declared.ids.JobId.{JobId}
 use Rattle.msrp_audit.proofs.queues.is_behind.Goals as goal
 

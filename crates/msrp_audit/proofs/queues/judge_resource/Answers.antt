@@ -1,4 +1,5 @@
-use Rattle.msrp_plan.proofs.Common.{◌≡◌, ◌+◌, ◌<◌, true, length, take, ap, sym, ◌∙◌, subst, arith, is_global, is_on}
+use Rattle.std.proofs.Common.{◌≡◌, ◌+◌, ◌<◌, ◌∙◌}
+use Rattle.msrp_plan.proofs.Common.{true, length, take, ap, sym, subst, arith, is_global, is_on}
 use Rattle.msrp_plan.specs.Requests.{HasTaken}
 use Rattle.msrp_plan.specs.declared.rows.Row.{Row}
 use Rattle.msrp_audit.specs.Inside.Pieces.{broken_reply}

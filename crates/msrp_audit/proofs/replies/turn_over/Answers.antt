@@ -1,4 +1,5 @@
-use Rattle.msrp_plan.proofs.Common.{◌≡◌, true, subst}
+use Rattle.std.proofs.Common.{◌≡◌}
+use Rattle.msrp_plan.proofs.Common.{true, subst}
 use Rattle.msrp_audit.specs.Inside.Replies.{is_answered}
 use Rattle.msrp_audit.proofs.Following.{kinds_same, has_call}
 use Rattle.msrp_audit.proofs.replies.turn_over.Goals as goal

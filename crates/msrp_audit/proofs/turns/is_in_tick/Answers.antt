@@ -1,4 +1,5 @@
-use Rattle.msrp_plan.proofs.Common.{◌≡◌, ◌*◌, ◌+◌, ◌-◌, ◌/◌, sym, ap, ◌∙◌, arith, inl, inr, eq-eqb, cases_lt, lt-ltb, le-ltb, div-add-mod', mod_below, not_equal}
+use Rattle.std.proofs.Common.{◌≡◌, ◌*◌, ◌+◌, ◌-◌, ◌/◌, ◌∙◌}
+use Rattle.msrp_plan.proofs.Common.{sym, ap, arith, inl, inr, eq-eqb, cases_lt, lt-ltb, le-ltb, div-add-mod', mod_below, not_equal}
 use Rattle.msrp_audit.proofs.Judging.{tick_now}
 use Rattle.msrp_audit.proofs.turns.is_in_tick.Goals as goal
 

@@ -1,4 +1,5 @@
-use Rattle.msrp_plan.proofs.Common.{◌<◌, arith}
+use Rattle.std.proofs.Common.{◌<◌}
+use Rattle.msrp_plan.proofs.Common.{arith}
 use Rattle.msrp_audit.proofs.Judging.{turn_by_tick}
 use Rattle.msrp_audit.proofs.Turned.{due_tick}
 use Rattle.msrp_audit.proofs.turns.is_in_turn.Goals as goal

@@ -1,4 +1,5 @@
-use Rattle.msrp_plan.proofs.Common.{◌≡◌, ◌*◌, ◌+◌, ◌<◌, min, length, take, refl, ap, sym, ◌∙◌, arith, length-set, length-take-le}
+use Rattle.std.proofs.Common.{◌≡◌, ◌*◌, ◌+◌, ◌<◌, ◌∙◌}
+use Rattle.msrp_plan.proofs.Common.{min, length, take, refl, ap, sym, arith, length-set, length-take-le}
 use Rattle.msrp_audit.specs.Inside.Pieces.{part_size}
 use Rattle.msrp_audit.proofs.Parts.{part_begins, part_ends, turn_passes, turn_found}
 use Rattle.msrp_audit.proofs.Turned.{next_at, next_more}

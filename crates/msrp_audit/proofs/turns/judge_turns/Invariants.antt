@@ -1,4 +1,5 @@
-use Rattle.msrp_plan.proofs.Common.{◌≡◌, ◌≤◌, length, take, IsRunStart}
+use Rattle.std.proofs.Common.{◌≡◌, ◌≤◌}
+use Rattle.msrp_plan.proofs.Common.{length, take, IsRunStart}
 use Rattle.msrp_audit.specs.Inside.Pieces.{broken_turn}
 use Rattle.msrp_audit.specs.Inside.Walks.{AreNextTurns}
 use Rattle.msrp_audit.proofs.Scanning.{PassesTo}

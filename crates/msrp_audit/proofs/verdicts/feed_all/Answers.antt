@@ -1,4 +1,5 @@
-use Rattle.msrp_plan.proofs.Common.{◌≡◌, ℕ, ◌+◌, ◌++◌, ◌∷◌, [], List, Some, Err, take, drop, ap, sym, ◌∙◌, subst, take-append-drop, PlanModel, fault_in, verdict, fault_stays, early_is}
+use Rattle.std.proofs.Common.{◌≡◌, ◌+◌, ◌++◌, ◌∷◌, ◌∙◌}
+use Rattle.msrp_plan.proofs.Common.{ℕ, [], List, Some, Err, take, drop, ap, sym, subst, take-append-drop, PlanModel, fault_in, verdict, fault_stays, early_is}
 use Rattle.msrp_plan.specs.declared.faults.Fault.{Fault}
 use Rattle.msrp_plan.specs.declared.rows.Row.{Row as TraceRow}
 use Rattle.msrp_audit.specs.Audits.{HasFed, answer_of}

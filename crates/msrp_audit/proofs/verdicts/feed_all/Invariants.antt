@@ -1,4 +1,5 @@
-use Rattle.msrp_plan.proofs.Common.{◌≡◌, take}
+use Rattle.std.proofs.Common.{◌≡◌}
+use Rattle.msrp_plan.proofs.Common.{take}
 use Rattle.msrp_audit.specs.Audits.{HasFed}
 use Rattle.msrp_audit.proofs.verdicts.feed_all.Given as goal
 

@@ -1,4 +1,5 @@
-use Rattle.msrp_plan.proofs.Common.{arith, ◌+◌, ◌∙◌, length-set}
+use Rattle.std.proofs.Common.{◌+◌, ◌∙◌}
+use Rattle.msrp_plan.proofs.Common.{arith, length-set}
 use Rattle.msrp_board.proofs.End.{copied}
 use Rattle.msrp_board.proofs.settled.words_of.Goals as goal
 

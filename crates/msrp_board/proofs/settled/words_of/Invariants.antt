@@ -1,4 +1,5 @@
-use Rattle.msrp_plan.proofs.Common.{◌≡◌, ◌<◌, ℕ, length, slice_index}
+use Rattle.std.proofs.Common.{◌≡◌, ◌<◌}
+use Rattle.msrp_plan.proofs.Common.{ℕ, length, slice_index}
 use Rattle.std.specs.Mem.Slots.{slots_items}
 use Rattle.msrp_board.proofs.settled.words_of.Given as goal
 

@@ -1,4 +1,5 @@
-use Rattle.msrp_plan.proofs.Common.{sym, subst, ◌∙◌}
+use Rattle.std.proofs.Common.{◌∙◌}
+use Rattle.msrp_plan.proofs.Common.{sym, subst}
 use Rattle.msrp_c.proofs.Lengths.{long-judged, short-judged}
 use Rattle.msrp_c.specs.Answers.{Tells}
 use Rattle.msrp_c.proofs.audits.msrp_audit_rows.Goals as goal

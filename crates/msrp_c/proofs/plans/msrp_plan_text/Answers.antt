@@ -1,4 +1,5 @@
-use Rattle.msrp_plan.proofs.Common.{sym, subst, ◌∙◌}
+use Rattle.std.proofs.Common.{◌∙◌}
+use Rattle.msrp_plan.proofs.Common.{sym, subst}
 use Rattle.msrp_c.proofs.Lengths.{long-answered, short-answered}
 use Rattle.msrp_c.specs.Answers.{Hands}
 use Rattle.msrp_c.proofs.plans.msrp_plan_text.Goals as goal

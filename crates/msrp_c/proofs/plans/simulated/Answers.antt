@@ -1,4 +1,5 @@
-use Rattle.msrp_plan.proofs.Common.{◌≡◌, ◌⊎◌, ◌∙◌, ℕ, List, Option, Some, None, Err, ap, inl, inr, subst, sym, PlanModel}
+use Rattle.std.proofs.Common.{◌≡◌, ◌⊎◌, ◌∙◌}
+use Rattle.msrp_plan.proofs.Common.{ℕ, List, Option, Some, None, Err, ap, inl, inr, subst, sym, PlanModel}
 use Rattle.msrp_plan.specs.declared.rows.TextVersion.{TextVersion}
 use Rattle.std.specs.declared.result.Result.{Result}
 use Rattle.msrp_faults.specs.declared.faults.CliFault.{CliFault}

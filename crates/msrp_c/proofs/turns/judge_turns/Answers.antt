@@ -1,4 +1,5 @@
-use Rattle.msrp_plan.proofs.Common.{arith, ◌≡◌, ◌++◌, ◌∷◌, [], ◌+◌, ◌*◌, ◌≤◌, ◌<◌, ℕ, Some, None, Ok, Err, cond, length, map, refl, ap, sym, subst, ◌∙◌, length-append, take_all, PlanModel, fault_in, verdict}
+use Rattle.std.proofs.Common.{◌≡◌, ◌++◌, ◌∷◌, ◌+◌, ◌*◌, ◌≤◌, ◌<◌, ◌∙◌}
+use Rattle.msrp_plan.proofs.Common.{arith, [], ℕ, Some, None, Ok, Err, cond, length, map, refl, ap, sym, subst, length-append, take_all, PlanModel, fault_in, verdict}
 use Rattle.msrp_audit.specs.Audits.{answer_of}
 use Rattle.msrp_engine.proofs.Judging.{fault-answer, good-answer, turn-left}
 use Rattle.msrp_trace.specs.declared.faults.TraceError.TheVariants.{At}

@@ -1,4 +1,5 @@
-use Rattle.msrp_plan.proofs.Common.{◌≡◌, ◌*◌, ◌≤◌, List, None, Ok, length, map, take, fault_in}
+use Rattle.std.proofs.Common.{◌≡◌, ◌*◌, ◌≤◌}
+use Rattle.msrp_plan.proofs.Common.{List, None, Ok, length, map, take, fault_in}
 use Rattle.msrp_plan.specs.declared.rows.Row.{Row}
 use Rattle.msrp_audit.specs.Audits.{HasFed}
 use Rattle.msrp_c.specs.Turns.{row_of}

@@ -1,4 +1,5 @@
-use Rattle.msrp_plan.proofs.Common.{sym, subst, ◌∙◌}
+use Rattle.std.proofs.Common.{◌∙◌}
+use Rattle.msrp_plan.proofs.Common.{sym, subst}
 use Rattle.msrp_c.proofs.Lengths.{long-words, short-words}
 use Rattle.msrp_c.specs.Whys.{HandsWords}
 use Rattle.msrp_c.proofs.whys.msrp_why_plan.Goals as goal

@@ -1,4 +1,5 @@
-use Rattle.msrp_plan.proofs.Common.{rules, ◌∙◌, ap}
+use Rattle.std.proofs.Common.{◌∙◌}
+use Rattle.msrp_plan.proofs.Common.{rules, ap}
 use Rattle.clap.specs.Words.{found_of}
 use Rattle.msrp_cli.specs.Arguments.{is_from_words}
 use Rattle.msrp_cli.proofs.Found.{equals_words, source_is}

@@ -1,4 +1,4 @@
-use Rattle.msrp_plan.proofs.Common.{◌∙◌}
+use Rattle.std.proofs.Common.{◌∙◌}
 use Rattle.clap.specs.Words.{found_of}
 use Rattle.msrp_cli.proofs.Found.{first_is}
 use Rattle.msrp_cli.proofs.arguments.value_of.Goals as goal

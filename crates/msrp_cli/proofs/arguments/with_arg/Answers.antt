@@ -1,5 +1,5 @@
-use Rattle.msrp_plan.proofs.Common.{rules, ◌≡◌, ◌∙◌, Ok, IfOk, subst, IfOk-weaker}
-use Rattle.std.proofs.Common.{ap₂}
+use Rattle.msrp_plan.proofs.Common.{rules, Ok, IfOk, subst, IfOk-weaker}
+use Rattle.std.proofs.Common.{◌≡◌, ◌∙◌, ap₂}
 use Rattle.clap.specs.Words.{app_of, with_rule}
 use Rattle.msrp_cli.proofs.arguments.with_arg.Goals as goal
 

@@ -1,4 +1,5 @@
-use Rattle.msrp_plan.proofs.Common.{rules, ◌≡◌, ◌++◌, ◌∷◌, [], Ok, Err, ap, sym, ◌∙◌, inr}
+use Rattle.std.proofs.Common.{◌≡◌, ◌++◌, ◌∷◌, ◌∙◌}
+use Rattle.msrp_plan.proofs.Common.{rules, [], Ok, Err, ap, sym, inr}
 use Rattle.msrp_faults.specs.Outcomes.{trace_fault_of}
 use Rattle.msrp_engine.proofs.RowsJudged.{broken-found, end-found, error-found, fewer-turns, next-gives, none-came, row-came}
 use Rattle.msrp_engine.proofs.audit.judge_rows.Goals as goal

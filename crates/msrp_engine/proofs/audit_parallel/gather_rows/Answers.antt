@@ -1,4 +1,5 @@
-use Rattle.msrp_plan.proofs.Common.{rules, ◌≡◌, ◌++◌, ◌∷◌, ◌+◌, [], List, Ok, Err, length, length-append, arith, ap, subst, sym, ◌∙◌}
+use Rattle.std.proofs.Common.{◌≡◌, ◌++◌, ◌∷◌, ◌+◌, ◌∙◌}
+use Rattle.msrp_plan.proofs.Common.{rules, [], List, Ok, Err, length, length-append, arith, ap, subst, sym}
 use Rattle.msrp_plan.specs.declared.rows.Row.{Row}
 use Rattle.msrp_engine.specs.Judging.{row_told, rows_left}
 use Rattle.msrp_engine.specs.Inside.Gathered.{IsGathered}

@@ -1,4 +1,5 @@
-use Rattle.msrp_plan.proofs.Common.{◌≡◌, Some, length}
+use Rattle.std.proofs.Common.{◌≡◌}
+use Rattle.msrp_plan.proofs.Common.{Some, length}
 use Rattle.msrp_trace.specs.Reading.{Told}
 use Rattle.msrp_engine.specs.Judging.{rows_left}
 use Rattle.msrp_trace.proofs.ReadThrough.{IsReadTo}

@@ -1,4 +1,5 @@
-use Rattle.msrp_plan.proofs.Common.{◌≡◌, true, false, [], ap, sym, ◌∙◌, arith, get_or_from_slice_get, is_global, PlanModel, wrote-more}
+use Rattle.std.proofs.Common.{◌≡◌, ◌∙◌}
+use Rattle.msrp_plan.proofs.Common.{true, false, [], ap, sym, arith, get_or_from_slice_get, is_global, PlanModel, wrote-more}
 use Rattle.msrp_text.proofs.Written.{wrote-as}
 use Rattle.msrp_engine.proofs.CheckRecords.{global-is, local-ceiling, local-is}
 use Rattle.msrp_engine.proofs.check.write_ceiling.Goals as goal

@@ -1,4 +1,5 @@
-use Rattle.msrp_plan.proofs.Common.{ap, ◌∙◌, level, wrote-more}
+use Rattle.std.proofs.Common.{◌∙◌}
+use Rattle.msrp_plan.proofs.Common.{ap, level, wrote-more}
 use Rattle.msrp_engine.proofs.check.write_level.Goals as goal
 
 pub returns : goal.returns

@@ -1,4 +1,5 @@
-use Rattle.msrp_plan.proofs.Common.{rules, ◌≡◌, ◌++◌, ◌∷◌, [], List, Ok, Err, IfOk, None, refl, ap, sym, subst, ◌∙◌, PlanModel, fault_in}
+use Rattle.std.proofs.Common.{◌≡◌, ◌++◌, ◌∷◌, ◌∙◌}
+use Rattle.msrp_plan.proofs.Common.{rules, [], List, Ok, Err, IfOk, None, refl, ap, sym, subst, PlanModel, fault_in}
 use Rattle.msrp_plan.specs.declared.rows.Row.{Row}
 use Rattle.msrp_faults.specs.Outcomes.{trace_fault_of}
 use Rattle.msrp_report.specs.Lines.{lines_of}

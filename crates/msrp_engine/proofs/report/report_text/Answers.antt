@@ -1,4 +1,5 @@
-use Rattle.msrp_plan.proofs.Common.{rules, ◌≡◌, Ok, Err, refl}
+use Rattle.std.proofs.Common.{◌≡◌}
+use Rattle.msrp_plan.proofs.Common.{rules, Ok, Err, refl}
 use Rattle.msrp_engine.proofs.Reporting.{report-answers}
 use Rattle.msrp_engine.proofs.report.report_text.Goals as goal
 

@@ -1,4 +1,5 @@
-use Rattle.msrp_plan.proofs.Common.{◌≡◌, ◌∙◌, ◌*◌, true, [], ◌∷◌, ◌++◌, length, ap, refl, sym, subst, arith, append-nil, append_assoc, length-append, nil_from_length, IsRun}
+use Rattle.std.proofs.Common.{◌≡◌, ◌∙◌, ◌*◌, ◌∷◌, ◌++◌}
+use Rattle.msrp_plan.proofs.Common.{true, [], length, ap, refl, sym, subst, arith, append-nil, append_assoc, length-append, nil_from_length, IsRun}
 use Rattle.msrp_trace.specs.Gathering.{WriterModel}
 use Rattle.msrp_trace.specs.TraceText.{head_text, is_named, row_text, trace_text}
 use Rattle.msrp_trace.proofs.Gathered.{gathers-all, gathers-as, gathers-more}

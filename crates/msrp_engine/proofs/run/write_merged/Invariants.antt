@@ -1,4 +1,5 @@
-use Rattle.msrp_plan.proofs.Common.{◌≡◌, List, [], ◌++◌, length}
+use Rattle.std.proofs.Common.{◌≡◌, ◌++◌}
+use Rattle.msrp_plan.proofs.Common.{List, [], length}
 use Rattle.msrp_plan.specs.declared.rows.Row.{Row}
 use Rattle.msrp_trace.specs.Gathering.{Gathers}
 use Rattle.msrp_trace.specs.TraceText.{trace_text}

@@ -1,4 +1,5 @@
-use Rattle.msrp_plan.proofs.Common.{◌≡◌, Ok, Err, cond, ap, sym, inr, ◌∙◌}
+use Rattle.std.proofs.Common.{◌≡◌, ◌∙◌}
+use Rattle.msrp_plan.proofs.Common.{Ok, Err, cond, ap, sym, inr}
 use Rattle.std.proofs.lemmas.Result.{err_from_is_err_and}
 use Rattle.msrp_faults.specs.declared.faults.CliFault.TheVariants.{Write}
 use Rattle.msrp_engine.proofs.run.write_run.Goals as goal

@@ -1,4 +1,5 @@
-use Rattle.msrp_plan.proofs.Common.{◌≡◌, ◌<◌, ◌+◌, ◌*◌, true, ap, refl, sym, subst, ◌∙◌, IsPlan, PlanModel}
+use Rattle.std.proofs.Common.{◌≡◌, ◌<◌, ◌+◌, ◌*◌, ◌∙◌}
+use Rattle.msrp_plan.proofs.Common.{true, ap, refl, sym, subst, IsPlan, PlanModel}
 use Rattle.msrp_sim.specs.Simulated.{SimModel, HasMade}
 use Rattle.msrp_trace.specs.Gathering.{after_tick}
 use Rattle.msrp_trace.specs.TraceText.{is_named}

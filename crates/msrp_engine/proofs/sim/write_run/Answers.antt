@@ -1,4 +1,5 @@
-use Rattle.msrp_plan.proofs.Common.{◌≡◌, ◌∙◌, ◌+◌, ◌*◌, ◌<◌, [], ◌∷◌, ◌++◌, ap, decimal, refl, sym, subst, arith, append-nil, PlanModel, IsPlan}
+use Rattle.std.proofs.Common.{◌≡◌, ◌∙◌, ◌+◌, ◌*◌, ◌<◌, ◌∷◌, ◌++◌}
+use Rattle.msrp_plan.proofs.Common.{[], ap, decimal, refl, sym, subst, arith, append-nil, PlanModel, IsPlan}
 use Rattle.msrp_trace.specs.Gathering.{WriterModel, after_tick}
 use Rattle.msrp_trace.specs.Texts.{TextsModel}
 use Rattle.msrp_trace.specs.TraceText.{head_text}

@@ -1,4 +1,5 @@
-use Rattle.msrp_plan.proofs.Common.{◌≡◌, List, []}
+use Rattle.std.proofs.Common.{◌≡◌}
+use Rattle.msrp_plan.proofs.Common.{List, []}
 use Rattle.msrp_plan.specs.declared.rows.Row.{Row}
 use Rattle.msrp_sim.specs.Simulated.{HasMade}
 use Rattle.msrp_trace.specs.Gathering.{Gathers}

@@ -1,4 +1,5 @@
-use Rattle.msrp_plan.proofs.Common.{rules, ◌≡◌, subst, inr}
+use Rattle.std.proofs.Common.{◌≡◌}
+use Rattle.msrp_plan.proofs.Common.{rules, subst, inr}
 use Rattle.msrp_faults.specs.Outcomes.{written_status}
 use Rattle.msrp_engine.specs.Simulation.{WritesRun}
 use Rattle.msrp_engine.proofs.sim.write_sim.Goals as goal

@@ -1,4 +1,5 @@
-use Rattle.msrp_plan.proofs.Common.{◌≢◌, ap, sym, ◌∙◌, subst, arith}
+use Rattle.std.proofs.Common.{◌≢◌, ◌∙◌}
+use Rattle.msrp_plan.proofs.Common.{ap, sym, subst, arith}
 use Rattle.msrp_core.specs.Machine.{MachineModel}
 use Rattle.msrp_examples.specs.Lock.{CanGoOn}
 use Rattle.msrp_examples.proofs.GoingOn.{begins}

@@ -1,4 +1,4 @@
-use Rattle.msrp_plan.proofs.Common.{◌≡◌}
+use Rattle.std.proofs.Common.{◌≡◌}
 use Rattle.msrp_examples.specs.Lock.{CanGoOn}
 use Rattle.msrp_examples.proofs.lock.served.Given as goal
 

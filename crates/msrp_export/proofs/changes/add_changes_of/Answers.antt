@@ -1,4 +1,5 @@
-use Rattle.msrp_plan.proofs.Common.{◌≡◌, sym, subst, arith, flat_map, range_with_len, Wrote, flat_more, wrote-more, wrote-nothing}
+use Rattle.std.proofs.Common.{◌≡◌}
+use Rattle.msrp_plan.proofs.Common.{sym, subst, arith, flat_map, range_with_len, Wrote, flat_more, wrote-more, wrote-nothing}
 use Rattle.msrp_export.specs.Changes.{change}
 use Rattle.msrp_export.specs.Groups.{count_of}
 use Rattle.msrp_export.proofs.changes.add_changes_of.Goals as goal

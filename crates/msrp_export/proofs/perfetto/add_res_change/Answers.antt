@@ -1,4 +1,5 @@
-use Rattle.msrp_plan.proofs.Common.{◌∙◌, sym, wrote-more}
+use Rattle.std.proofs.Common.{◌∙◌}
+use Rattle.msrp_plan.proofs.Common.{sym, wrote-more}
 use Rattle.msrp_export.proofs.Writing.{wrote-unless}
 use Rattle.msrp_export.proofs.perfetto.add_res_change.Goals as goal
 

@@ -1,4 +1,5 @@
-use Rattle.msrp_plan.proofs.Common.{◌<◌, ap, sym, subst, ◌∙◌, length, release}
+use Rattle.std.proofs.Common.{◌<◌, ◌∙◌}
+use Rattle.msrp_plan.proofs.Common.{ap, sym, subst, length, release}
 use Rattle.msrp_plan.specs.declared.ids.TaskId.{TaskId}
 use Rattle.msrp_export.specs.Signals.{kind_in, last_row}
 use Rattle.msrp_export.specs.declared.standing.TaskCount.{TaskCount}

@@ -1,4 +1,5 @@
-use Rattle.msrp_plan.proofs.Common.{◌≡◌, length, map, take, vec_capacity}
+use Rattle.std.proofs.Common.{◌≡◌}
+use Rattle.msrp_plan.proofs.Common.{length, map, take, vec_capacity}
 use Rattle.msrp_levels.specs.Footprints.{footprint_of}
 use Rattle.msrp_levels.proofs.footprints.footprints_of.Given as goal
 

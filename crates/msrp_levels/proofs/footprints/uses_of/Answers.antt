@@ -1,4 +1,5 @@
-use Rattle.msrp_plan.proofs.Common.{◌≡◌, ◌+◌, ◌-◌, List, sym, subst, ap, ◌∙◌, arith, task_at, units_lock}
+use Rattle.std.proofs.Common.{◌≡◌, ◌+◌, ◌-◌, ◌∙◌}
+use Rattle.msrp_plan.proofs.Common.{List, sym, subst, ap, arith, task_at, units_lock}
 use Rattle.msrp_levels.specs.Footprints.{CanPass, passed, uses_from}
 use Rattle.msrp_levels.specs.declared.footprints.Use.{Use}
 use Rattle.msrp_levels.proofs.PassedUnits.{uses_behind, pass_unit, can_pass}

@@ -1,4 +1,5 @@
-use Rattle.msrp_plan.proofs.Common.{◌≡◌, task_at}
+use Rattle.std.proofs.Common.{◌≡◌}
+use Rattle.msrp_plan.proofs.Common.{task_at}
 use Rattle.msrp_levels.specs.Footprints.{uses_from}
 use Rattle.msrp_levels.proofs.footprints.uses_of.Given as goal
 

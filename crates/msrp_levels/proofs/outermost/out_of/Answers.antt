@@ -1,4 +1,5 @@
-use Rattle.msrp_plan.proofs.Common.{◌≡◌, ◌+◌, ◌-◌, ◌==◌, ℕ, cond, map, max, length, rules, Some, ap, sym, subst, ◌∙◌, arith, eq-eqb, range_with_len, task_at, greatest, wait_bound, units_lock, not_equal}
+use Rattle.std.proofs.Common.{◌≡◌, ◌+◌, ◌-◌, ◌==◌, ◌∙◌}
+use Rattle.msrp_plan.proofs.Common.{ℕ, cond, map, max, length, rules, Some, ap, sym, subst, arith, eq-eqb, range_with_len, task_at, greatest, wait_bound, units_lock, not_equal}
 use Rattle.msrp_plan.specs.declared.units.Op.TheVariants.{Run}
 use Rattle.msrp_plan.proofs.Blocking.SectionRows.{spent}
 use Rattle.msrp_plan.proofs.TaskUnits.PlanUnits.{units_balance}

@@ -1,4 +1,5 @@
-use Rattle.msrp_plan.proofs.Common.{◌≡◌, ◌≤◌, ◌+◌, cond, Some, length, get_or, vec_len, rules, ap, sym, ◌∙◌, arith, spin_bound, wait_bound}
+use Rattle.std.proofs.Common.{◌≡◌, ◌≤◌, ◌+◌, ◌∙◌}
+use Rattle.msrp_plan.proofs.Common.{cond, Some, length, get_or, vec_len, rules, ap, sym, arith, spin_bound, wait_bound}
 use Rattle.msrp_levels.specs.declared.usage.Usage.{Usage}
 use Rattle.msrp_levels.proofs.Longest.{spin_bound-le}
 use Rattle.msrp_levels.proofs.Stored.{read_spin, spins_stored}

@@ -1,4 +1,5 @@
-use Rattle.msrp_plan.proofs.Common.{◌≡◌, ◌≤◌, ◌+◌, length, vec_len, vec_capacity}
+use Rattle.std.proofs.Common.{◌≡◌, ◌≤◌, ◌+◌}
+use Rattle.msrp_plan.proofs.Common.{length, vec_len, vec_capacity}
 use Rattle.msrp_levels.proofs.DistinctDeadlines.{AreDistinctFrom}
 use Rattle.msrp_levels.proofs.preemption.distinct_deadlines.Given as goal
 

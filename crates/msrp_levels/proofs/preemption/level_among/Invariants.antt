@@ -1,4 +1,5 @@
-use Rattle.msrp_plan.proofs.Common.{◌≡◌, ◌+◌, nat_lt, take, count_by}
+use Rattle.std.proofs.Common.{◌≡◌, ◌+◌}
+use Rattle.msrp_plan.proofs.Common.{nat_lt, take, count_by}
 use Rattle.msrp_levels.proofs.preemption.level_among.Given as goal
 
 abbrev pub invariant-loop-other : goal.invariant-loop-other

@@ -1,4 +1,5 @@
-use Rattle.msrp_plan.proofs.Common.{◌+◌, ◌++◌, ◌∷◌, [], nat_lt, count_by, List, ℕ, map, take, ◌∙◌, sym, ap, arith, task_at, no_task, level_of}
+use Rattle.std.proofs.Common.{◌+◌, ◌++◌, ◌∷◌, ◌∙◌}
+use Rattle.msrp_plan.proofs.Common.{[], nat_lt, count_by, List, ℕ, map, take, sym, ap, arith, task_at, no_task, level_of}
 use Rattle.std.proofs.lemmas.List.{map_more}
 use Rattle.msrp_levels.proofs.preemption.levels_of.Goals as goal
 

@@ -1,4 +1,5 @@
-use Rattle.msrp_plan.proofs.Common.{◌≡◌, length, map, take, vec_capacity, level_of}
+use Rattle.std.proofs.Common.{◌≡◌}
+use Rattle.msrp_plan.proofs.Common.{length, map, take, vec_capacity, level_of}
 use Rattle.msrp_levels.proofs.preemption.levels_of.Given as goal
 
 abbrev pub invariant-loop-t : goal.invariant-loop-t

@@ -1,4 +1,5 @@
-use Rattle.msrp_plan.proofs.Common.{◌≤◌, ◌∙◌, arith, eq-eqb, not_equal}
+use Rattle.std.proofs.Common.{◌≤◌, ◌∙◌}
+use Rattle.msrp_plan.proofs.Common.{arith, eq-eqb, not_equal}
 use Rattle.msrp_levels.specs.Usage.{core_use_at}
 use Rattle.msrp_levels.proofs.Spins.{spin_on, spin_own, spin_unused}
 use Rattle.msrp_levels.proofs.usage.spin_among.Goals as goal

@@ -1,4 +1,5 @@
-use Rattle.msrp_plan.proofs.Common.{◌≡◌, ◌≤◌, ◌+◌, ◌*◌, filter, range_with_len, sum_by}
+use Rattle.std.proofs.Common.{◌≡◌, ◌≤◌, ◌+◌, ◌*◌}
+use Rattle.msrp_plan.proofs.Common.{filter, range_with_len, sum_by}
 use Rattle.msrp_levels.specs.Usage.{core_use_at, is_other_user}
 use Rattle.msrp_levels.proofs.usage.spin_among.Given as goal
 

@@ -1,4 +1,5 @@
-use Rattle.msrp_plan.proofs.Common.{◌≡◌, map, length, vec_capacity, range_with_len}
+use Rattle.std.proofs.Common.{◌≡◌}
+use Rattle.msrp_plan.proofs.Common.{map, length, vec_capacity, range_with_len}
 use Rattle.msrp_levels.specs.Usage.{spin_among}
 use Rattle.msrp_levels.proofs.usage.spins_among.Given as goal
 

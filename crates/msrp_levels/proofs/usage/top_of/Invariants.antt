@@ -1,4 +1,5 @@
-use Rattle.msrp_plan.proofs.Common.{◌≡◌, ◌==◌, map, take, filter, greatest}
+use Rattle.std.proofs.Common.{◌≡◌, ◌==◌}
+use Rattle.msrp_plan.proofs.Common.{map, take, filter, greatest}
 use Rattle.msrp_levels.proofs.usage.top_of.Given as goal
 
 abbrev pub invariant-loop-task : goal.invariant-loop-task

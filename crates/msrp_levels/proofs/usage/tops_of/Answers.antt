@@ -1,4 +1,5 @@
-use Rattle.msrp_plan.proofs.Common.{ℕ, ◌==◌, ◌++◌, ◌∷◌, [], List, ap, sym, ◌∙◌, arith, length, map, filter, range_with_len, length-map-range_with_len, map-range_with_len_more, greatest, top}
+use Rattle.std.proofs.Common.{◌==◌, ◌++◌, ◌∷◌, ◌∙◌}
+use Rattle.msrp_plan.proofs.Common.{ℕ, [], List, ap, sym, arith, length, map, filter, range_with_len, length-map-range_with_len, map-range_with_len_more, greatest, top}
 use Rattle.msrp_levels.specs.declared.footprints.Footprint.{Footprint}
 use Rattle.msrp_levels.proofs.TaskUses.{top_same}
 use Rattle.msrp_levels.proofs.usage.tops_of.Goals as goal

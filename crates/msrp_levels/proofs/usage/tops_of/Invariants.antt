@@ -1,4 +1,5 @@
-use Rattle.msrp_plan.proofs.Common.{◌≡◌, map, vec_capacity, range_with_len, top}
+use Rattle.std.proofs.Common.{◌≡◌}
+use Rattle.msrp_plan.proofs.Common.{map, vec_capacity, range_with_len, top}
 use Rattle.msrp_levels.proofs.usage.tops_of.Given as goal
 
 abbrev pub invariant-loop-c : goal.invariant-loop-c

@@ -1,4 +1,4 @@
-use Rattle.msrp_plan.proofs.Common.{◌∙◌}
+use Rattle.std.proofs.Common.{◌∙◌}
 use Rattle.msrp_levels.proofs.Stored.{usages_more}
 use Rattle.msrp_levels.proofs.usage.usages_of.Goals as goal
 

@@ -1,4 +1,5 @@
-use Rattle.msrp_plan.proofs.Common.{◌≡◌, length, vec_capacity}
+use Rattle.std.proofs.Common.{◌≡◌}
+use Rattle.msrp_plan.proofs.Common.{length, vec_capacity}
 use Rattle.msrp_levels.specs.Usage.{AreUsages}
 use Rattle.msrp_levels.proofs.usage.usages_of.Given as goal
 

@@ -1,4 +1,5 @@
-use Rattle.msrp_plan.proofs.Common.{◌≡◌, length, take, vec_capacity}
+use Rattle.std.proofs.Common.{◌≡◌}
+use Rattle.msrp_plan.proofs.Common.{length, take, vec_capacity}
 use Rattle.msrp_merge.proofs.kept.prefault.Given as goal
 
 abbrev pub invariant-loop-turn : goal.invariant-loop-turn

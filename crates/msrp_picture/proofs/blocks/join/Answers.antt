@@ -1,4 +1,5 @@
-use Rattle.msrp_plan.proofs.Common.{◌≡◌, true, false, cond, List, ◌∷◌, ◌++◌, ap, append_assoc, sym, ◌∙◌, flat_map}
+use Rattle.std.proofs.Common.{◌≡◌, ◌∷◌, ◌++◌, ◌∙◌}
+use Rattle.msrp_plan.proofs.Common.{true, false, cond, List, ap, append_assoc, sym, flat_map}
 use Rattle.msrp_picture.specs.Types.{Span}
 use Rattle.msrp_picture.specs.Blocks.{goes_on, joined, seen}
 use Rattle.msrp_picture.proofs.blocks.join.Goals as goal

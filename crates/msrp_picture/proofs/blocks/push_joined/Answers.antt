@@ -1,4 +1,5 @@
-use Rattle.msrp_plan.proofs.Common.{◌≡◌, ℕ, ◌≤◌, List, length, drop, ◌++◌, ap, append-nil, arith, sym, ◌∙◌, drop_all, flat_map}
+use Rattle.std.proofs.Common.{◌≡◌, ◌≤◌, ◌++◌, ◌∙◌}
+use Rattle.msrp_plan.proofs.Common.{ℕ, List, length, drop, ap, append-nil, arith, sym, drop_all, flat_map}
 use Rattle.msrp_picture.specs.Types.{Span, Window}
 use Rattle.msrp_picture.specs.Blocks.{joined, seen}
 use Rattle.msrp_picture.proofs.Growing.{ends-as}

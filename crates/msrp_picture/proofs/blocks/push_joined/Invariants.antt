@@ -1,4 +1,5 @@
-use Rattle.msrp_plan.proofs.Common.{◌≡◌, ◌++◌, drop, flat_map}
+use Rattle.std.proofs.Common.{◌≡◌, ◌++◌}
+use Rattle.msrp_plan.proofs.Common.{drop, flat_map}
 use Rattle.msrp_picture.specs.Blocks.{joined, seen}
 use Rattle.msrp_picture.proofs.blocks.push_joined.Given as goal
 

@@ -1,5 +1,5 @@
-use Rattle.msrp_plan.proofs.Common.{slice_index_or, ℕ, ◌<◌, Bool, List, cond, length, map, max, ap, sym, arith, ◌∙◌, get_or-map-range_with_len, range_with_len, greatest}
-use Rattle.std.proofs.Common.{filter}
+use Rattle.msrp_plan.proofs.Common.{slice_index_or, ℕ, Bool, List, cond, length, map, max, ap, sym, arith, get_or-map-range_with_len, range_with_len, greatest}
+use Rattle.std.proofs.Common.{◌<◌, ◌∙◌, filter}
 use Rattle.msrp_levels.specs.Users.{ceiling_at}
 use Rattle.msrp_picture.specs.Types.{PlanModel}
 use Rattle.msrp_picture.specs.Ceilings.{is_claimed}

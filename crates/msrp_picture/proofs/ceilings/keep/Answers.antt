@@ -1,4 +1,5 @@
-use Rattle.msrp_plan.proofs.Common.{ap, arith, Bool, List, length, not, slice_set, ◌∙◌}
+use Rattle.std.proofs.Common.{◌∙◌}
+use Rattle.msrp_plan.proofs.Common.{ap, arith, Bool, List, length, not, slice_set}
 use Rattle.msrp_picture.specs.Ceilings.{claims}
 use Rattle.msrp_picture.proofs.Claims.{claims-kept, claims-set, claims-size}
 use Rattle.msrp_picture.proofs.ceilings.keep.Goals as goal

@@ -1,4 +1,5 @@
-use Rattle.msrp_plan.proofs.Common.{ℕ, ◌+◌, ◌∷◌, ◌++◌, [], ap, arith, length, sym, take, ◌∙◌, take_more}
+use Rattle.std.proofs.Common.{◌+◌, ◌∷◌, ◌++◌, ◌∙◌}
+use Rattle.msrp_plan.proofs.Common.{ℕ, [], ap, arith, length, sym, take, take_more}
 use Rattle.msrp_picture.specs.Types.{Row}
 use Rattle.msrp_picture.specs.Ceilings.{claims, raised, told_ceiling}
 use Rattle.msrp_picture.proofs.Claims.{claims-size}

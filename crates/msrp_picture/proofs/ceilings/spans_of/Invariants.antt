@@ -1,4 +1,5 @@
-use Rattle.msrp_plan.proofs.Common.{◌≡◌, ◌+◌, ℕ, take, flat_map, range_with_len}
+use Rattle.std.proofs.Common.{◌≡◌, ◌+◌}
+use Rattle.msrp_plan.proofs.Common.{ℕ, take, flat_map, range_with_len}
 use Rattle.msrp_picture.specs.Ceilings.{claims, raised, told_ceiling}
 use Rattle.msrp_picture.proofs.ceilings.spans_of.Given as goal
 

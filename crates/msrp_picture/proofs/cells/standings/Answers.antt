@@ -1,6 +1,6 @@
 -- Rows that are taken tick by tick.
-use Rattle.msrp_plan.proofs.Common.{◌≡◌, ℕ, ◌+◌, ◌-◌, ◌*◌, ◌≤◌, List, ◌++◌, ap, sym, ◌∙◌, arith, take, drop, length, ◌∷◌, [], map, min, rules, subst, drop-take, take-take, length-map-range_with_len, range_with_len}
-use Rattle.std.proofs.Common.{take-append-drop}
+use Rattle.msrp_plan.proofs.Common.{ℕ, List, ap, sym, arith, take, drop, length, [], map, min, rules, subst, drop-take, take-take, length-map-range_with_len, range_with_len}
+use Rattle.std.proofs.Common.{◌≡◌, ◌+◌, ◌-◌, ◌*◌, ◌≤◌, ◌++◌, ◌∙◌, ◌∷◌, take-append-drop}
 use Rattle.std.specs.List.{slice_range}
 use Rattle.msrp_plan.specs.Requests.{HasTaken}
 use Rattle.msrp_picture.specs.Types.{PlanModel, Row, Standing}

@@ -1,4 +1,5 @@
-use Rattle.msrp_plan.proofs.Common.{◌≡◌, ◌-◌, ◌*◌, ◌≤◌, map, take, range_with_len}
+use Rattle.std.proofs.Common.{◌≡◌, ◌-◌, ◌*◌, ◌≤◌}
+use Rattle.msrp_plan.proofs.Common.{map, take, range_with_len}
 use Rattle.msrp_plan.specs.Requests.{HasTaken}
 use Rattle.msrp_picture.specs.Cells.{standing_after}
 use Rattle.msrp_picture.proofs.cells.standings.Given as goal

@@ -1,4 +1,5 @@
-use Rattle.msrp_plan.proofs.Common.{◌≡◌, ◌+◌, ◌++◌, ◌∷◌, [], List, take, subst, sym, ap, ◌∙◌, append_assoc, arith, take_more}
+use Rattle.std.proofs.Common.{◌≡◌, ◌+◌, ◌++◌, ◌∷◌, ◌∙◌}
+use Rattle.msrp_plan.proofs.Common.{[], List, take, subst, sym, ap, append_assoc, arith, take_more}
 use Rattle.msrp_plan.specs.Requests.{HasTaken}
 use Rattle.msrp_picture.specs.Types.{Row}
 use Rattle.msrp_picture.proofs.cells.take_all.Goals as goal

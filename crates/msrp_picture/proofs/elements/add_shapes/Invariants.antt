@@ -1,4 +1,5 @@
-use Rattle.msrp_plan.proofs.Common.{◌≡◌, ◌++◌, take, flat_map}
+use Rattle.std.proofs.Common.{◌≡◌, ◌++◌}
+use Rattle.msrp_plan.proofs.Common.{take, flat_map}
 use Rattle.msrp_picture.specs.Elements.{shape_text}
 use Rattle.msrp_picture.proofs.elements.add_shapes.Given as goal
 

@@ -1,4 +1,5 @@
-use Rattle.msrp_plan.proofs.Common.{◌≡◌, length}
+use Rattle.std.proofs.Common.{◌≡◌}
+use Rattle.msrp_plan.proofs.Common.{length}
 use Rattle.std.specs.Vec.{vec_len}
 use Rattle.msrp_picture.proofs.gathering.gathered.Given as goal
 

@@ -1,5 +1,6 @@
 -- The rows of a job among those of its task.
-use Rattle.msrp_plan.proofs.Common.{fold, not, ◌&&◌, ◌==◌, ◌+◌, ◌≡◌, ℕ, Bool, true, false, List, Option, Some, None, refl, ap, ◌∙◌, cond, nat_eq, all_of, filter_within, done, is_finished, is_job, is_row_of, is_waiting, release, task_of}
+use Rattle.std.proofs.Common.{◌&&◌, ◌==◌, ◌+◌, ◌≡◌, ◌∙◌}
+use Rattle.msrp_plan.proofs.Common.{fold, not, ℕ, Bool, true, false, List, Option, Some, None, refl, ap, cond, nat_eq, all_of, filter_within, done, is_finished, is_job, is_row_of, is_waiting, release, task_of}
 use Rattle.msrp_plan.proofs.Lists.Filters.{count_within}
 use Rattle.msrp_picture.specs.Types.{JobId, Life, Row}
 use Rattle.msrp_picture.specs.Blocks.{is_job_of, task_rows}

@@ -1,4 +1,5 @@
-use Rattle.msrp_plan.proofs.Common.{ℕ, ◌++◌, ◌∙◌, ap, arith, flat_map, range_with_len, job_at}
+use Rattle.std.proofs.Common.{◌++◌, ◌∙◌}
+use Rattle.msrp_plan.proofs.Common.{ℕ, ap, arith, flat_map, range_with_len, job_at}
 use Rattle.msrp_picture.specs.Jobs.{life_of, life_shapes}
 use Rattle.msrp_picture.specs.Places.{task_room}
 use Rattle.msrp_picture.proofs.Growing.{grows-each}

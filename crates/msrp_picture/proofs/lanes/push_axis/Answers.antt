@@ -1,4 +1,5 @@
-use Rattle.msrp_plan.proofs.Common.{ℕ, ◌+◌}
+use Rattle.std.proofs.Common.{◌+◌}
+use Rattle.msrp_plan.proofs.Common.{ℕ}
 use Rattle.msrp_picture.specs.Lanes.{tick_note}
 use Rattle.msrp_picture.proofs.Growing.{grows-each}
 use Rattle.msrp_picture.proofs.lanes.push_axis.Goals as goal

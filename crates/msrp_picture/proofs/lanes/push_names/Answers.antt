@@ -1,4 +1,5 @@
-use Rattle.msrp_plan.proofs.Common.{ℕ, ◌+◌, ◌∷◌, ◌++◌, []}
+use Rattle.std.proofs.Common.{◌+◌, ◌∷◌, ◌++◌}
+use Rattle.msrp_plan.proofs.Common.{ℕ, []}
 use Rattle.msrp_picture.specs.Names.{again, note_of}
 use Rattle.msrp_picture.proofs.Growing.{grows-each}
 use Rattle.msrp_picture.proofs.lanes.push_names.Goals as goal

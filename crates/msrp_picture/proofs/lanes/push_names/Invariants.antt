@@ -1,4 +1,5 @@
-use Rattle.msrp_plan.proofs.Common.{◌≡◌, ◌++◌, ◌∷◌, [], ℕ, ◌+◌, flat_map, range_with_len}
+use Rattle.std.proofs.Common.{◌≡◌, ◌++◌, ◌∷◌, ◌+◌}
+use Rattle.msrp_plan.proofs.Common.{[], ℕ, flat_map, range_with_len}
 use Rattle.msrp_picture.specs.Names.{again, note_of}
 use Rattle.msrp_picture.proofs.lanes.push_names.Given as goal
 

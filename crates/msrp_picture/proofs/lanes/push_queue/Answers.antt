@@ -1,4 +1,5 @@
-use Rattle.msrp_plan.proofs.Common.{◌++◌, List, ap, ◌∙◌, flat_map}
+use Rattle.std.proofs.Common.{◌++◌, ◌∙◌}
+use Rattle.msrp_plan.proofs.Common.{List, ap, flat_map}
 use Rattle.msrp_picture.specs.Types.{Room, Span, Standing}
 use Rattle.msrp_picture.specs.Blocks.{merged, seen}
 use Rattle.msrp_picture.specs.Cells.{standings}

@@ -1,4 +1,5 @@
-use Rattle.msrp_plan.proofs.Common.{◌≡◌, ◌++◌, flat_map}
+use Rattle.std.proofs.Common.{◌≡◌, ◌++◌}
+use Rattle.msrp_plan.proofs.Common.{flat_map}
 use Rattle.msrp_picture.specs.Lanes.{queue_shapes}
 use Rattle.msrp_picture.specs.Lines.{global_resources}
 use Rattle.msrp_picture.proofs.lanes.push_queues.Given as goal

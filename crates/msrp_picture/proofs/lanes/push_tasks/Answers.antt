@@ -1,4 +1,5 @@
-use Rattle.msrp_plan.proofs.Common.{ℕ, ◌++◌}
+use Rattle.std.proofs.Common.{◌++◌}
+use Rattle.msrp_plan.proofs.Common.{ℕ}
 use Rattle.msrp_picture.specs.Lanes.{task_head, task_life}
 use Rattle.msrp_picture.proofs.Growing.{grows, grows-each}
 use Rattle.msrp_picture.proofs.lanes.push_tasks.Goals as goal

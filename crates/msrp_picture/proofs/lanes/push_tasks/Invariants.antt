@@ -1,4 +1,5 @@
-use Rattle.msrp_plan.proofs.Common.{◌≡◌, ℕ, ◌++◌, flat_map, range_with_len}
+use Rattle.std.proofs.Common.{◌≡◌, ◌++◌}
+use Rattle.msrp_plan.proofs.Common.{ℕ, flat_map, range_with_len}
 use Rattle.msrp_picture.specs.Lanes.{task_head, task_life}
 use Rattle.msrp_picture.proofs.lanes.push_tasks.Given as goal
 

@@ -1,5 +1,6 @@
 -- Blocks, taken apart into their ticks.
-use Rattle.msrp_plan.proofs.Common.{option_map, ◌≡◌, ℕ, ◌+◌, ◌-◌, ◌≤◌, Bool, true, false, cond, List, [], ◌∷◌, ◌++◌, Option, Some, None, map, append_assoc, ap, refl, sym, ◌∙◌, arith, and_parts, map-append, AllByRecursion, cons_option, flat_map, range_with_len, same_choice_is, same_res_is, range_more, same_kind_is}
+use Rattle.std.proofs.Common.{◌≡◌, ◌+◌, ◌-◌, ◌≤◌, ◌∷◌, ◌++◌, ◌∙◌}
+use Rattle.msrp_plan.proofs.Common.{option_map, ℕ, Bool, true, false, cond, List, [], Option, Some, None, map, append_assoc, ap, refl, sym, arith, and_parts, map-append, AllByRecursion, cons_option, flat_map, range_with_len, same_choice_is, same_res_is, range_more, same_kind_is}
 use Rattle.std.proofs.lemmas.Bool.{eqb-true}
 use Rattle.msrp_picture.specs.Types.{JobId, Lane, Look, ResId, Room, Row, Span}
 use Rattle.msrp_picture.specs.Blocks.{goes_on, joined, look_of, merged, res_of, same_look}

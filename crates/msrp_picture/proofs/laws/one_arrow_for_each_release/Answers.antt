@@ -1,5 +1,6 @@
 -- How many arrows there are.
-use Rattle.msrp_plan.proofs.Common.{◌&&◌, ◌==◌, ◌%◌, count_by, drop, nat_eq, nat_le, take, ◌-◌, ⊤, ◌≡◌, ◌≢◌, ℕ, zero, suc, ◌+◌, ◌<◌, ◌≤◌, Bool, true, false, cond, inl, inr, List, [], ◌∷◌, ◌++◌, Option, Some, None, Result, Ok, Err, length, ap, refl, sym, ◌∙◌, arith, eq-eqb, cases_eq, le-leb, sum_by-append, flat_map, range_with_len, same_self, flat_more, not_equal, job_at, jobs_of, same_job, level, log_of, release, task_at}
+use Rattle.std.proofs.Common.{◌&&◌, ◌==◌, ◌%◌, ◌-◌, ◌≡◌, ◌≢◌, ◌+◌, ◌<◌, ◌≤◌, ◌∷◌, ◌++◌, ◌∙◌}
+use Rattle.msrp_plan.proofs.Common.{count_by, drop, nat_eq, nat_le, take, ⊤, ℕ, zero, suc, Bool, true, false, cond, inl, inr, List, [], Option, Some, None, Result, Ok, Err, length, ap, refl, sym, arith, eq-eqb, cases_eq, le-leb, sum_by-append, flat_map, range_with_len, same_self, flat_more, not_equal, job_at, jobs_of, same_job, level, log_of, release, task_at}
 use Rattle.std.specs.Prelude.{filter_map, find}
 use Rattle.msrp_picture.specs.Types.{CoreId, Fault, JobId, Lane, Life, Owner, PlanModel, Room, Row, Shape, Span, Strip, Window, Words}
 use Rattle.msrp_picture.specs.Blocks.{blocks, broken_shapes, is_seen, lane_of, mark_shapes, merged, met, rows_shapes, seen, span_of, task_rows}

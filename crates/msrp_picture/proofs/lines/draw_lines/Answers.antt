@@ -1,4 +1,5 @@
-use Rattle.msrp_plan.proofs.Common.{◌≡◌, ◌++◌, ◌∷◌, [], ap, arith, map, rules, subst, sym, take, ◌∙◌, map-append, take_all, take_more, AllByRecursion, all_push}
+use Rattle.std.proofs.Common.{◌≡◌, ◌++◌, ◌∷◌, ◌∙◌}
+use Rattle.msrp_plan.proofs.Common.{[], ap, arith, map, rules, subst, sym, take, map-append, take_all, take_more, AllByRecursion, all_push}
 use Rattle.msrp_picture.specs.Picture.{IsDrawn, line_of}
 use Rattle.msrp_picture.proofs.lines.draw_lines.Goals as goal
 

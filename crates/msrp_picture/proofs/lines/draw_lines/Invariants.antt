@@ -1,4 +1,5 @@
-use Rattle.msrp_plan.proofs.Common.{◌≡◌, map, take, AllByRecursion}
+use Rattle.std.proofs.Common.{◌≡◌}
+use Rattle.msrp_plan.proofs.Common.{map, take, AllByRecursion}
 use Rattle.msrp_picture.specs.Picture.{IsDrawn, line_of}
 use Rattle.msrp_picture.proofs.lines.draw_lines.Given as goal
 

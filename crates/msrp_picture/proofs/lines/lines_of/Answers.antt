@@ -1,4 +1,5 @@
-use Rattle.msrp_plan.proofs.Common.{◌∷◌, []}
+use Rattle.std.proofs.Common.{◌∷◌}
+use Rattle.msrp_plan.proofs.Common.{[]}
 use Rattle.msrp_picture.specs.Lines.{core_lines}
 use Rattle.msrp_picture.specs.declared.lines.PictureLine.TheVariants.{Ticks}
 use Rattle.msrp_picture.proofs.Growing.{grows-each}

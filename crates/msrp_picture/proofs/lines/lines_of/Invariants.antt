@@ -1,4 +1,5 @@
-use Rattle.msrp_plan.proofs.Common.{◌≡◌, ◌∷◌, ◌++◌, [], flat_map, range_with_len}
+use Rattle.std.proofs.Common.{◌≡◌, ◌∷◌, ◌++◌}
+use Rattle.msrp_plan.proofs.Common.{[], flat_map, range_with_len}
 use Rattle.msrp_picture.specs.Lines.{core_lines}
 use Rattle.msrp_picture.specs.declared.lines.PictureLine.TheVariants.{Ticks}
 use Rattle.msrp_picture.proofs.lines.lines_of.Given as goal

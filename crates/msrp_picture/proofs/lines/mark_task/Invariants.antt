@@ -1,4 +1,5 @@
-use Rattle.msrp_plan.proofs.Common.{◌≡◌, ◌++◌, ℕ, List, map, range_with_len, job_at}
+use Rattle.std.proofs.Common.{◌≡◌, ◌++◌}
+use Rattle.msrp_plan.proofs.Common.{ℕ, List, map, range_with_len, job_at}
 use Rattle.msrp_picture.specs.Lines.{are_in, tick_of}
 use Rattle.msrp_picture.proofs.lines.mark_task.Given as goal
 

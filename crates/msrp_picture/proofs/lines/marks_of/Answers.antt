@@ -1,4 +1,5 @@
-use Rattle.msrp_plan.proofs.Common.{◌≡◌, ◌==◌, [], cond, map, ap, sym, ◌∙◌, arith, length, map-append, range_with_len, jobs_among, jobs_of, task_at}
+use Rattle.std.proofs.Common.{◌≡◌, ◌==◌, ◌∙◌}
+use Rattle.msrp_plan.proofs.Common.{[], cond, map, ap, sym, arith, length, map-append, range_with_len, jobs_among, jobs_of, task_at}
 use Rattle.msrp_plan.proofs.Jobs.JobLists.{jobs_among_more}
 use Rattle.msrp_picture.specs.Lines.{are_in, tick_of}
 use Rattle.msrp_picture.proofs.lines.marks_of.Goals as goal

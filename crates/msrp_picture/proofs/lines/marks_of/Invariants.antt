@@ -1,4 +1,5 @@
-use Rattle.msrp_plan.proofs.Common.{◌≡◌, map, range_with_len, jobs_among}
+use Rattle.std.proofs.Common.{◌≡◌}
+use Rattle.msrp_plan.proofs.Common.{map, range_with_len, jobs_among}
 use Rattle.msrp_picture.specs.Lines.{are_in, tick_of}
 use Rattle.msrp_picture.proofs.lines.marks_of.Given as goal
 

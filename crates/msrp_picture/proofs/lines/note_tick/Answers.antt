@@ -1,4 +1,5 @@
-use Rattle.msrp_plan.proofs.Common.{length, ◌-◌, inl, inr, ap, ◌∙◌, arith, true, slice_set, length-map-range_with_len}
+use Rattle.std.proofs.Common.{◌-◌, ◌∙◌}
+use Rattle.msrp_plan.proofs.Common.{length, inl, inr, ap, arith, true, slice_set, length-map-range_with_len}
 use Rattle.msrp_picture.proofs.Marking.{apart, is_among, set_mark}
 use Rattle.msrp_picture.proofs.lines.note_tick.Goals as goal
 use Rattle.msrp_picture.proofs.lines.note_tick.Goals.{else-from-tick-via-then-from-tick+else-tick-from, else-from-tick-via-else-from-tick}

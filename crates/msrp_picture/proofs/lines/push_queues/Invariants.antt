@@ -1,4 +1,5 @@
-use Rattle.msrp_plan.proofs.Common.{◌≡◌, ◌++◌, flat_map}
+use Rattle.std.proofs.Common.{◌≡◌, ◌++◌}
+use Rattle.msrp_plan.proofs.Common.{flat_map}
 use Rattle.msrp_picture.specs.Lines.{global_resources, queue_lines}
 use Rattle.msrp_picture.proofs.lines.push_queues.Given as goal
 

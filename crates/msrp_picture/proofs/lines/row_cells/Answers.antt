@@ -1,4 +1,5 @@
-use Rattle.msrp_plan.proofs.Common.{◌≡◌, ◌+◌, ◌∷◌, ◌++◌, [], List, ap, append-nil, append_assoc, arith, drop, rules, sym, ◌∙◌, drop_all}
+use Rattle.std.proofs.Common.{◌≡◌, ◌+◌, ◌∷◌, ◌++◌, ◌∙◌}
+use Rattle.msrp_plan.proofs.Common.{[], List, ap, append-nil, append_assoc, arith, drop, rules, sym, drop_all}
 use Rattle.msrp_picture.specs.Types.{Row}
 use Rattle.msrp_picture.specs.Lines.{row_cells}
 use Rattle.msrp_picture.proofs.Growing.{drop-at}

@@ -1,4 +1,5 @@
-use Rattle.msrp_plan.proofs.Common.{◌≡◌, ◌++◌, None, drop}
+use Rattle.std.proofs.Common.{◌≡◌, ◌++◌}
+use Rattle.msrp_plan.proofs.Common.{None, drop}
 use Rattle.msrp_picture.specs.Lines.{row_cells}
 use Rattle.msrp_picture.proofs.lines.row_cells.Given as goal
 

@@ -1,4 +1,5 @@
-use Rattle.msrp_plan.proofs.Common.{◌≡◌, ◌++◌, OnOk, subst, sym}
+use Rattle.std.proofs.Common.{◌≡◌, ◌++◌}
+use Rattle.msrp_plan.proofs.Common.{OnOk, subst, sym}
 use Rattle.msrp_picture.specs.Lines.{name_of}
 use Rattle.msrp_picture.specs.Picture.{label}
 use Rattle.msrp_picture.proofs.picture.add_label_of.Goals as goal

@@ -1,4 +1,5 @@
-use Rattle.msrp_plan.proofs.Common.{◌++◌, codes}
+use Rattle.std.proofs.Common.{◌++◌}
+use Rattle.msrp_plan.proofs.Common.{codes}
 use Rattle.msrp_picture.specs.Picture.{task_text}
 use Rattle.msrp_picture.proofs.Growing.{grows-each}
 use Rattle.msrp_picture.proofs.picture.add_legend.Goals as goal

@@ -1,4 +1,5 @@
-use Rattle.msrp_plan.proofs.Common.{◌++◌, codes, ℕ, flat_map}
+use Rattle.std.proofs.Common.{◌++◌}
+use Rattle.msrp_plan.proofs.Common.{codes, ℕ, flat_map}
 use Rattle.msrp_picture.specs.Picture.{drawn_text}
 use Rattle.msrp_picture.proofs.Growing.{grows-each}
 use Rattle.msrp_picture.proofs.picture.add_parts.Goals as goal

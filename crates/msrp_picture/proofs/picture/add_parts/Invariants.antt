@@ -1,4 +1,5 @@
-use Rattle.msrp_plan.proofs.Common.{◌≡◌, ◌++◌, codes, flat_map, range_with_len}
+use Rattle.std.proofs.Common.{◌≡◌, ◌++◌}
+use Rattle.msrp_plan.proofs.Common.{codes, flat_map, range_with_len}
 use Rattle.msrp_picture.specs.Picture.{drawn_text}
 use Rattle.msrp_picture.proofs.picture.add_parts.Given as goal
 

@@ -1,5 +1,6 @@
 -- Lines that are drawn with their cells.
-use Rattle.msrp_plan.proofs.Common.{◌≡◌, ℕ, ◌++◌, List, [], ◌∷◌, Option, map, codes, refl, ap, ◌∙◌, AllByRecursion, flat_map, range_with_len}
+use Rattle.std.proofs.Common.{◌≡◌, ◌++◌, ◌∷◌, ◌∙◌}
+use Rattle.msrp_plan.proofs.Common.{ℕ, List, [], Option, map, codes, refl, ap, AllByRecursion, flat_map, range_with_len}
 use Rattle.msrp_picture.specs.Types.{Drawn, PlanModel, Row, Window}
 use Rattle.msrp_picture.specs.Lines.{cells, lines_of}
 use Rattle.msrp_picture.specs.Picture.{IsDrawn, drawn_text, line_of, line_text, part_text}

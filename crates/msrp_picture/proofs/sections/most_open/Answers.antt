@@ -1,4 +1,5 @@
-use Rattle.msrp_plan.proofs.Common.{◌≡◌, ℕ, ◌+◌, ◌∙◌, drop, max, subst, sym, arith}
+use Rattle.std.proofs.Common.{◌≡◌, ◌+◌, ◌∙◌}
+use Rattle.msrp_plan.proofs.Common.{ℕ, drop, max, subst, sym, arith}
 use Rattle.msrp_picture.specs.Sections.{most_open}
 use Rattle.msrp_picture.proofs.Depths.{most-further, most-last, one-opens}
 use Rattle.msrp_picture.proofs.sections.most_open.Goals as goal

@@ -1,4 +1,5 @@
-use Rattle.msrp_plan.proofs.Common.{◌≡◌, ◌≤◌, drop, max}
+use Rattle.std.proofs.Common.{◌≡◌, ◌≤◌}
+use Rattle.msrp_plan.proofs.Common.{drop, max}
 use Rattle.msrp_picture.specs.Sections.{most_open}
 use Rattle.msrp_picture.proofs.sections.most_open.Given as goal
 

@@ -1,4 +1,5 @@
-use Rattle.msrp_plan.proofs.Common.{ℕ, ◌+◌, ◌≤◌, ◌++◌, ◌∙◌, ap, arith, drop, subst, sym, take_rest}
+use Rattle.std.proofs.Common.{◌+◌, ◌≤◌, ◌++◌, ◌∙◌}
+use Rattle.msrp_plan.proofs.Common.{ℕ, ap, arith, drop, subst, sym, take_rest}
 use Rattle.msrp_picture.specs.Sections.{first_section, most_open, open_with, section_at}
 use Rattle.msrp_picture.proofs.Depths.{behind-more, most-left, one-opens, open-least}
 use Rattle.msrp_picture.proofs.Growing.{grows-each}

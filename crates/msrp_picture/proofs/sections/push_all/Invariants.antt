@@ -1,4 +1,5 @@
-use Rattle.msrp_plan.proofs.Common.{◌≡◌, ◌≤◌, ◌++◌, drop, take, flat_map, range_with_len}
+use Rattle.std.proofs.Common.{◌≡◌, ◌≤◌, ◌++◌}
+use Rattle.msrp_plan.proofs.Common.{drop, take, flat_map, range_with_len}
 use Rattle.msrp_picture.specs.Sections.{most_open, open_behind, section_at}
 use Rattle.msrp_picture.proofs.sections.push_all.Given as goal
 

@@ -1,4 +1,5 @@
-use Rattle.msrp_plan.specs.Common.{◌≡◌, true, is_of_core}
+use Rattle.std.proofs.Common.{◌≡◌}
+use Rattle.msrp_plan.specs.Common.{true, is_of_core}
 use Rattle.std.proofs.lemmas.List.Elements.{recursion_from_All}
 use Rattle.msrp_plan.proofs.Legality.Locality.{choice_local, does_next_local}
 use Rattle.msrp_plan.proofs.Legality.ReplyLocality.{fifo_local, reply_local}

@@ -1,6 +1,6 @@
-use Rattle.msrp_plan.specs.Common.{◌≢◌, take, drop, MutualExclusion}
+use Rattle.msrp_plan.specs.Common.{take, drop, MutualExclusion}
 use Rattle.msrp_plan.specs.declared.ids.JobId.{JobId}
-use Rattle.std.proofs.Common.{refl, ap, arith}
+use Rattle.std.proofs.Common.{◌≢◌, refl, ap, arith}
 use Rattle.std.proofs.Math.Bool.{true≢false}
 use Rattle.msrp_plan.specs.Examples.BlockedByTheCeiling.{plan, rows, past_the_ceiling}
 use Rattle.msrp_plan.specs.Examples.Notation.{job}

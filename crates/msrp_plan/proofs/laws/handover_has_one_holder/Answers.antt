@@ -1,6 +1,6 @@
-use Rattle.msrp_plan.specs.Common.{◌≢◌, take, drop, MutualExclusion}
+use Rattle.msrp_plan.specs.Common.{take, drop, MutualExclusion}
 use Rattle.msrp_plan.specs.declared.ids.JobId.{JobId}
-use Rattle.std.proofs.Common.{refl, ap, arith}
+use Rattle.std.proofs.Common.{◌≢◌, refl, ap, arith}
 use Rattle.msrp_plan.specs.Examples.HandoverWithinATick.{plan, rows, taken_when_held}
 use Rattle.msrp_plan.specs.Examples.Notation.{job}
 use Rattle.msrp_plan.proofs.Runs.Verdicts.{good_is_run}

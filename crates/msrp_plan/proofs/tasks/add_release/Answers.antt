@@ -1,4 +1,5 @@
-use Rattle.msrp_plan.specs.Common.{◌≡◌, ◌-◌, length}
+use Rattle.std.proofs.Common.{◌≡◌, ◌-◌}
+use Rattle.msrp_plan.specs.Common.{length}
 use Rattle.std.proofs.lemmas.List.{length-map}
 use Rattle.std.proofs.lemmas.Result.{on_ok_weaker, on_err_weaker}
 use Rattle.msrp_plan.specs.Building.{with_more_ticks}

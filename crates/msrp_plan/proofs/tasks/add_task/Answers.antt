@@ -1,5 +1,5 @@
-use Rattle.msrp_plan.specs.Common.{◌≡◌, map, false, string_bytes, TaskModel, has_name}
-use Rattle.std.proofs.Common.{ap, ◌∙◌, refl}
+use Rattle.msrp_plan.specs.Common.{map, false, string_bytes, TaskModel, has_name}
+use Rattle.std.proofs.Common.{◌≡◌, ap, ◌∙◌, refl}
 use Rattle.msrp_plan.specs.Inside.Tasks.{task_view}
 use Rattle.msrp_plan.proofs.Building.Stored.{task_push}
 use Rattle.msrp_plan.proofs.tasks.add_task.Goals as goal

@@ -1,6 +1,6 @@
-use Rattle.msrp_plan.specs.Common.{◌≡◌, ◌+◌, ◌||◌, ◌&&◌, ◌==◌, List, length, slice_get, take}
+use Rattle.msrp_plan.specs.Common.{List, length, slice_get, take}
 use Rattle.msrp_plan.specs.declared.units.Op.{Op}
-use Rattle.std.proofs.Common.{◌∙◌, ap, subst, sym, arith}
+use Rattle.std.proofs.Common.{◌≡◌, ◌+◌, ◌||◌, ◌&&◌, ◌==◌, ◌∙◌, ap, subst, sym, arith}
 use Rattle.std.proofs.lemmas.List.{take_all}
 use Rattle.std.proofs.lemmas.Option.{get_or_from_slice_get, slice_get_within}
 use Rattle.msrp_plan.specs.Inside.Users.{EachIsOn}

@@ -1,6 +1,6 @@
-use Rattle.msrp_plan.specs.Common.{◌≡◌, ◌||◌, List, map}
+use Rattle.msrp_plan.specs.Common.{List, map}
 use Rattle.msrp_plan.specs.declared.tasks.Task.{Task}
-use Rattle.std.proofs.Common.{subst, rules}
+use Rattle.std.proofs.Common.{◌≡◌, ◌||◌, subst, rules}
 use Rattle.std.specs.Map.Iter.{deref}
 use Rattle.std.proofs.lemmas.Map.Iter.{iter_end}
 use Rattle.indexmap.specs.IndexMap.{values}

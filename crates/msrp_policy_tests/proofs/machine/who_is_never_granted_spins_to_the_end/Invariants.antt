@@ -1,4 +1,4 @@
-use Rattle.msrp_plan.proofs.Common.{◌≡◌}
+use Rattle.std.proofs.Common.{◌≡◌}
 use Rattle.msrp_policy_tests.specs.Deaf.{deaf_port}
 use Rattle.msrp_core.specs.Ports.{claim_in}
 use Rattle.msrp_policy_tests.proofs.machine.who_is_never_granted_spins_to_the_end.Given as goal

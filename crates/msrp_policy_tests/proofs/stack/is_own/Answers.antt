@@ -1,4 +1,5 @@
-use Rattle.msrp_plan.proofs.Common.{◌∙◌, sym, eqb-true, arith, job_on}
+use Rattle.std.proofs.Common.{◌∙◌}
+use Rattle.msrp_plan.proofs.Common.{sym, eqb-true, arith, job_on}
 use Rattle.msrp_levels.proofs.PlanJobs.{job_in}
 use Rattle.msrp_policy_tests.proofs.stack.is_own.Goals as goal
 

@@ -1,4 +1,5 @@
-use Rattle.msrp_plan.proofs.Common.{◌≡◌, ◌∷◌, []}
+use Rattle.std.proofs.Common.{◌≡◌, ◌∷◌}
+use Rattle.msrp_plan.proofs.Common.{[]}
 use Rattle.msrp_policy_tests.specs.Nested.{nested}
 use Rattle.msrp_policy_tests.proofs.stack.lock_eight.Given as goal
 

@@ -1,4 +1,5 @@
-use Rattle.msrp_plan.proofs.Common.{◌≡◌, ◌+◌, ◌-◌, ◌∷◌, [], suc, ap, sym, subst, ◌∙◌, arith}
+use Rattle.std.proofs.Common.{◌≡◌, ◌+◌, ◌-◌, ◌∷◌, ◌∙◌}
+use Rattle.msrp_plan.proofs.Common.{[], suc, ap, sym, subst, arith}
 use Rattle.msrp_policy_tests.specs.Nested.{nested}
 use Rattle.msrp_stack.specs.Stack.{StackModel, IsInnermost, without_held}
 use Rattle.msrp_policy_tests.proofs.stack.unlock_eight.Goals as goal

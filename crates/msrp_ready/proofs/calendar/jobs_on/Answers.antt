@@ -1,4 +1,5 @@
-use Rattle.msrp_plan.proofs.Common.{◌==◌, ◌∙◌, sym, ap}
+use Rattle.std.proofs.Common.{◌==◌, ◌∙◌}
+use Rattle.msrp_plan.proofs.Common.{sym, ap}
 use Rattle.msrp_ready.specs.Keyed.{entry}
 use Rattle.msrp_ready.proofs.Gathering.{gather_on, gather_off}
 use Rattle.msrp_ready.proofs.calendar.jobs_on.Goals as goal

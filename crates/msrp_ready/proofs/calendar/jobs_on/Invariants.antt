@@ -1,4 +1,5 @@
-use Rattle.msrp_plan.proofs.Common.{◌≡◌, map, range_with_len, jobs_among}
+use Rattle.std.proofs.Common.{◌≡◌}
+use Rattle.msrp_plan.proofs.Common.{map, range_with_len, jobs_among}
 use Rattle.msrp_ready.specs.Keyed.{entry}
 use Rattle.msrp_ready.proofs.calendar.jobs_on.Given as goal
 

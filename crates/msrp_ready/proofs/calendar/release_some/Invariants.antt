@@ -1,4 +1,5 @@
-use Rattle.msrp_plan.proofs.Common.{◌≡◌, ◌+◌, ◌*◌, ◌≤◌, ◌++◌, length, take, IsPermutation}
+use Rattle.std.proofs.Common.{◌≡◌, ◌+◌, ◌*◌, ◌≤◌, ◌++◌}
+use Rattle.msrp_plan.proofs.Common.{length, take, IsPermutation}
 use Rattle.msrp_ready.specs.Keyed.{entry_keys}
 use Rattle.msrp_ready.proofs.calendar.release_some.Given as goal
 

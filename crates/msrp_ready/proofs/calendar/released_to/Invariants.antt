@@ -1,4 +1,5 @@
-use Rattle.msrp_plan.proofs.Common.{◌-◌, ◌≤◌, length, take, drop, All}
+use Rattle.std.proofs.Common.{◌-◌, ◌≤◌}
+use Rattle.msrp_plan.proofs.Common.{length, take, drop, All}
 use Rattle.msrp_ready.proofs.calendar.released_to.Given as goal
 
 abbrev pub invariant-loop-next : goal.invariant-loop-next

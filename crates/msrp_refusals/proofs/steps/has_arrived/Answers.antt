@@ -1,4 +1,5 @@
-use Rattle.msrp_plan.proofs.Common.{sym, ◌∙◌}
+use Rattle.std.proofs.Common.{◌∙◌}
+use Rattle.msrp_plan.proofs.Common.{sym}
 use Rattle.msrp_board.specs.declared.answers.SeatPhase.TheVariants.{Admitted}
 use Rattle.msrp_board.proofs.CoreSeats.{is_in, step_on}
 use Rattle.msrp_refusals.proofs.steps.has_arrived.Goals as goal

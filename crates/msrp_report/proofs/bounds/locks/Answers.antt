@@ -1,4 +1,4 @@
-use Rattle.msrp_plan.proofs.Common.{◌∙◌}
+use Rattle.std.proofs.Common.{◌∙◌}
 use Rattle.msrp_report.proofs.LineJobs.{user_is}
 use Rattle.msrp_report.proofs.bounds.locks.Goals as goal
 

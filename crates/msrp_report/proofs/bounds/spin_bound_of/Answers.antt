@@ -1,4 +1,5 @@
-use Rattle.msrp_plan.proofs.Common.{◌≡◌, ◌&&◌, ℕ, List, Bool, cond, map, max, sym, ap, ◌∙◌, filter, range_with_len, PlanModel, task_at, greatest, uses, is_global, spin_bound}
+use Rattle.std.proofs.Common.{◌≡◌, ◌&&◌, ◌∙◌}
+use Rattle.msrp_plan.proofs.Common.{ℕ, List, Bool, cond, map, max, sym, ap, filter, range_with_len, PlanModel, task_at, greatest, uses, is_global, spin_bound}
 use Rattle.msrp_report.proofs.LineJobs.{greatest_more, range_next}
 use Rattle.msrp_report.proofs.bounds.spin_bound_of.Goals as goal
 

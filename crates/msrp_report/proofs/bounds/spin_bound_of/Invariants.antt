@@ -1,4 +1,5 @@
-use Rattle.msrp_plan.proofs.Common.{◌≡◌, ◌&&◌, map, filter, range_with_len, task_at, greatest, uses, is_global, spin_bound}
+use Rattle.std.proofs.Common.{◌≡◌, ◌&&◌}
+use Rattle.msrp_plan.proofs.Common.{map, filter, range_with_len, task_at, greatest, uses, is_global, spin_bound}
 use Rattle.msrp_report.proofs.bounds.spin_bound_of.Given as goal
 
 abbrev pub invariant-loop-res : goal.invariant-loop-res

@@ -1,4 +1,5 @@
-use Rattle.msrp_plan.proofs.Common.{◌≡◌, take}
+use Rattle.std.proofs.Common.{◌≡◌}
+use Rattle.msrp_plan.proofs.Common.{take}
 use Rattle.msrp_report.specs.Reports.{HasCounted}
 use Rattle.msrp_report.proofs.judging.count_all.Given as goal
 

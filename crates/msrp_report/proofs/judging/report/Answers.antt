@@ -1,4 +1,5 @@
-use Rattle.msrp_plan.proofs.Common.{◌≡◌, Ok, Err, ap, sym, ◌∙◌, subst, IsRun, verdict, good_is_run}
+use Rattle.std.proofs.Common.{◌≡◌, ◌∙◌}
+use Rattle.msrp_plan.proofs.Common.{Ok, Err, ap, sym, subst, IsRun, verdict, good_is_run}
 use Rattle.msrp_audit.specs.Audits.{answer_of}
 use Rattle.msrp_report.specs.Lines.{lines_of}
 use Rattle.msrp_report.specs.Reports.{HasCounted}

@@ -1,4 +1,5 @@
-use Rattle.msrp_plan.proofs.Common.{◌≡◌, ◌+◌, ◌-◌, ◌==◌, cond, nat_lt, nat_le, ap, ◌∙◌, arith, key, release, done, is_finished}
+use Rattle.std.proofs.Common.{◌≡◌, ◌+◌, ◌-◌, ◌==◌, ◌∙◌}
+use Rattle.msrp_plan.proofs.Common.{cond, nat_lt, nat_le, ap, arith, key, release, done, is_finished}
 use Rattle.msrp_plan.specs.declared.ids.JobKey.{JobKey}
 use Rattle.msrp_report.specs.Lines.{last_tick}
 use Rattle.msrp_report.specs.Inside.Numbers.{numbers_of}

@@ -1,4 +1,5 @@
-use Rattle.msrp_plan.proofs.Common.{◌<◌, sym, ap, ◌∙◌, arith, job_at}
+use Rattle.std.proofs.Common.{◌<◌, ◌∙◌}
+use Rattle.msrp_plan.proofs.Common.{sym, ap, arith, job_at}
 use Rattle.msrp_report.specs.Inside.Numbers.{numbers_of}
 use Rattle.msrp_report.specs.Inside.Totals.{line_with}
 use Rattle.msrp_report.specs.declared.lines.Line.{Line}

@@ -1,4 +1,5 @@
-use Rattle.msrp_plan.proofs.Common.{◌∙◌, wrote-more}
+use Rattle.std.proofs.Common.{◌∙◌}
+use Rattle.msrp_plan.proofs.Common.{wrote-more}
 use Rattle.msrp_report.proofs.writing.write_line.Goals as goal
 
 pub returns : goal.returns

@@ -1,4 +1,5 @@
-use Rattle.msrp_plan.proofs.Common.{◌++◌, codes, Wrote}
+use Rattle.std.proofs.Common.{◌++◌}
+use Rattle.msrp_plan.proofs.Common.{codes, Wrote}
 use Rattle.msrp_report.specs.ReportText.{lines_text}
 use Rattle.msrp_report.proofs.writing.write_report.Given as goal
 

@@ -1,4 +1,5 @@
-use Rattle.msrp_plan.proofs.Common.{ap, ◌∙◌}
+use Rattle.std.proofs.Common.{◌∙◌}
+use Rattle.msrp_plan.proofs.Common.{ap}
 use Rattle.msrp_merge.specs.Merging.{turns_of}
 use Rattle.msrp_merge.specs.Turns.{rows_of}
 use Rattle.msrp_merge.proofs.OneMerge.{one_merge}

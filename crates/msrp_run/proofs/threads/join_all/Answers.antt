@@ -1,4 +1,5 @@
-use Rattle.msrp_plan.proofs.Common.{rules, ◌≡◌, ◌+◌, ◌<◌, arith, subst, sym, ap, ◌∙◌, length, vec_len, vec_items, into_iter_len}
+use Rattle.std.proofs.Common.{◌≡◌, ◌+◌, ◌<◌, ◌∙◌}
+use Rattle.msrp_plan.proofs.Common.{rules, arith, subst, sym, ap, length, vec_len, vec_items, into_iter_len}
 use Rattle.msrp_board.specs.Seats.{SeatModel}
 use Rattle.msrp_board.specs.Steps.{both}
 use Rattle.msrp_run.specs.Threads.{AllWorked, IsPromise}

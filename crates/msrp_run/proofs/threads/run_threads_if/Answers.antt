@@ -1,4 +1,5 @@
-use Rattle.msrp_plan.proofs.Common.{◌≡◌, List, true, subst, sym, carries_ahead}
+use Rattle.std.proofs.Common.{◌≡◌}
+use Rattle.msrp_plan.proofs.Common.{List, true, subst, sym, carries_ahead}
 use Rattle.msrp_board.specs.Boards.{entries_at}
 use Rattle.msrp_merge.specs.Merging.{AreLogs, turns_of}
 use Rattle.msrp_merge.specs.Sorting.{IsMerged}

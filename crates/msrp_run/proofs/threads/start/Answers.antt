@@ -1,4 +1,5 @@
-use Rattle.msrp_plan.proofs.Common.{rules, ◌≡◌, subst, ap, ◌∙◌}
+use Rattle.std.proofs.Common.{◌≡◌, ◌∙◌}
+use Rattle.msrp_plan.proofs.Common.{rules, subst, ap}
 use Rattle.msrp_plan.specs.declared.ids.CoreId.{CoreId}
 use Rattle.msrp_board.specs.Seats.{SeatModel}
 use Rattle.msrp_run.specs.Threads.{IsPromise}

@@ -1,4 +1,5 @@
-use Rattle.msrp_plan.proofs.Common.{rules, ◌≡◌, ℕ, suc, ◌+◌, ◌<◌, List, ◌∷◌, arith, subst, sym, ap, ◌∙◌, get_or, length, vec_len, vec_items, into_iter_items, into_iter_len, PlanModel}
+use Rattle.std.proofs.Common.{◌≡◌, ◌+◌, ◌<◌, ◌∷◌, ◌∙◌}
+use Rattle.msrp_plan.proofs.Common.{rules, ℕ, suc, List, arith, subst, sym, ap, get_or, length, vec_len, vec_items, into_iter_items, into_iter_len, PlanModel}
 use Rattle.msrp_board.specs.declared.books.BoardSize.{BoardSize}
 use Rattle.msrp_board.specs.declared.books.Conductor.TheVariants.{Aborted}
 use Rattle.msrp_run.specs.declared.workers.CoreParts.{CoreParts}

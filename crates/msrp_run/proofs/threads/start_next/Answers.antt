@@ -1,4 +1,5 @@
-use Rattle.msrp_plan.proofs.Common.{◌+◌, IfOk, IfErr, subst, sym, Ok, Err}
+use Rattle.std.proofs.Common.{◌+◌}
+use Rattle.msrp_plan.proofs.Common.{IfOk, IfErr, subst, sym, Ok, Err}
 use Rattle.std.specs.declared.result.Result.{Result}
 use Rattle.msrp_board.specs.declared.books.Conductor.TheVariants.{Aborted}
 use Rattle.msrp_run.specs.Threads.{HasRest, HasOthers, IsPromise}

@@ -1,4 +1,5 @@
-use Rattle.msrp_plan.proofs.Common.{◌+◌, ap, sym, ◌∙◌, subst, arith, option_or, common_steps}
+use Rattle.std.proofs.Common.{◌+◌, ◌∙◌}
+use Rattle.msrp_plan.proofs.Common.{ap, sym, subst, arith, option_or, common_steps}
 use Rattle.msrp_sim.specs.Cores.{AreNew}
 use Rattle.msrp_sim.proofs.Starting.{new_more}
 use Rattle.msrp_sim.proofs.cores.machines_of.Goals as goal

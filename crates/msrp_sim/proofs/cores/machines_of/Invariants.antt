@@ -1,4 +1,4 @@
-use Rattle.msrp_plan.proofs.Common.{◌≤◌}
+use Rattle.std.proofs.Common.{◌≤◌}
 use Rattle.std.specs.Vec.{vec_capacity}
 use Rattle.msrp_sim.specs.Cores.{AreNew}
 use Rattle.msrp_sim.proofs.cores.machines_of.Given as goal

@@ -1,5 +1,5 @@
-use Rattle.msrp_plan.proofs.Common.{◌≡◌, ℕ, List, ◌+◌, ◌<◌, ◌∙◌, sym, ap, arith, cond, nat_lt, get_or, set, length, inl, inr, cases_eq, cases_lt, lt-ltb, le-ltb, length-set, sum_by-set}
-use Rattle.std.proofs.Common.{get_or-set_same, get_or-set_other}
+use Rattle.msrp_plan.proofs.Common.{ℕ, List, sym, ap, arith, cond, nat_lt, get_or, set, length, inl, inr, cases_eq, cases_lt, lt-ltb, le-ltb, length-set, sum_by-set}
+use Rattle.std.proofs.Common.{◌≡◌, ◌+◌, ◌<◌, ◌∙◌, get_or-set_same, get_or-set_other}
 use Rattle.msrp_sim.proofs.fifo.rooms_of.Goals as goal
 
 -- one number more is set

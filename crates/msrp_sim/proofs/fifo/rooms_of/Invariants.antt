@@ -1,4 +1,5 @@
-use Rattle.msrp_plan.proofs.Common.{◌≡◌, ◌*◌, ℕ, cond, nat_lt, get_or, length, sum_by}
+use Rattle.std.proofs.Common.{◌≡◌, ◌*◌}
+use Rattle.msrp_plan.proofs.Common.{ℕ, cond, nat_lt, get_or, length, sum_by}
 use Rattle.msrp_sim.proofs.fifo.rooms_of.Given as goal
 
 abbrev pub invariant-loop-core : goal.invariant-loop-core

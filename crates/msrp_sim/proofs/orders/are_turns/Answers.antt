@@ -1,4 +1,5 @@
-use Rattle.msrp_plan.proofs.Common.{◌<◌, ◌/◌, length, get_or, sym, ◌∙◌, ap, arith, refl, true≢false}
+use Rattle.std.proofs.Common.{◌<◌, ◌/◌, ◌∙◌}
+use Rattle.msrp_plan.proofs.Common.{length, get_or, sym, ap, arith, refl, true≢false}
 use Rattle.msrp_sim.proofs.Given.{counted_more, due_in}
 use Rattle.msrp_sim.proofs.orders.are_turns.Goals.{then-core-cores-via-then-core-cores, then-core-cores-via-else-core-cores+then-turns-core}
 use Rattle.msrp_sim.proofs.orders.are_turns.Goals as goal

@@ -1,4 +1,5 @@
-use Rattle.msrp_plan.proofs.Common.{◌*◌, ◌∙◌, ap, arith, IsOrder}
+use Rattle.std.proofs.Common.{◌*◌, ◌∙◌}
+use Rattle.msrp_plan.proofs.Common.{ap, arith, IsOrder}
 use Rattle.msrp_sim.specs.Orders.{cores_of}
 use Rattle.msrp_sim.proofs.NextTurn.{run_in}
 use Rattle.msrp_sim.proofs.simulation.simulate.Goals as goal

@@ -1,4 +1,4 @@
-use Rattle.msrp_plan.proofs.Common.{◌≡◌, ◌≤◌}
+use Rattle.std.proofs.Common.{◌≡◌, ◌≤◌}
 use Rattle.std.specs.Vec.{vec_capacity}
 use Rattle.msrp_sim.specs.Simulated.{HasMade}
 use Rattle.msrp_sim.proofs.simulation.turn_all.Given as goal

@@ -1,4 +1,5 @@
-use Rattle.msrp_plan.proofs.Common.{◌≡◌, Some, None, refl, ap, sym, ◌∙◌, cond, option_or, none-some}
+use Rattle.std.proofs.Common.{◌≡◌, ◌∙◌}
+use Rattle.msrp_plan.proofs.Common.{Some, None, refl, ap, sym, cond, option_or, none-some}
 use Rattle.msrp_core.specs.Machine.{next_known}
 use Rattle.msrp_sim.specs.TurnPorts.{is_granted, unless_granted}
 use Rattle.msrp_sim.proofs.turn_port.repeat_by.Goals as goal

@@ -1,4 +1,5 @@
-use Rattle.msrp_plan.proofs.Common.{sym, ◌∙◌}
+use Rattle.std.proofs.Common.{◌∙◌}
+use Rattle.msrp_plan.proofs.Common.{sym}
 use Rattle.msrp_sim.proofs.Repeating.{again_known}
 use Rattle.msrp_sim.proofs.turn_port.repeats_by.Goals as goal
 

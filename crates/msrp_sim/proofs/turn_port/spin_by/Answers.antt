@@ -1,4 +1,5 @@
-use Rattle.msrp_plan.proofs.Common.{ap, sym, ◌∙◌, subst, IsSomeAnd}
+use Rattle.std.proofs.Common.{◌∙◌}
+use Rattle.msrp_plan.proofs.Common.{ap, sym, subst, IsSomeAnd}
 use Rattle.msrp_sim.specs.Serving.{is_served}
 use Rattle.msrp_sim.proofs.TurnPorts.{IsPollOf, poll_made}
 use Rattle.msrp_sim.proofs.turn_port.spin_by.Goals as goal

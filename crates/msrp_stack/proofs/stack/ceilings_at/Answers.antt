@@ -1,4 +1,5 @@
-use Rattle.msrp_plan.proofs.Common.{◌≡◌, ◌<◌, length, arith, ap, ◌∙◌, length-set}
+use Rattle.std.proofs.Common.{◌≡◌, ◌<◌, ◌∙◌}
+use Rattle.msrp_plan.proofs.Common.{length, arith, ap, length-set}
 use Rattle.msrp_levels.specs.Users.{ceiling_at}
 use Rattle.msrp_stack.proofs.Changes.{told_more}
 use Rattle.msrp_stack.proofs.stack.ceilings_at.Goals as goal

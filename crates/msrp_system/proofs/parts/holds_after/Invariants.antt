@@ -1,4 +1,5 @@
-use Rattle.msrp_plan.proofs.Common.{◌≡◌, ◌≤◌, take, count_by}
+use Rattle.std.proofs.Common.{◌≡◌, ◌≤◌}
+use Rattle.msrp_plan.proofs.Common.{take, count_by}
 use Rattle.msrp_plan.specs.Units.{is_lock_of, is_unlock_of}
 use Rattle.msrp_system.proofs.parts.holds_after.Given as goal
 

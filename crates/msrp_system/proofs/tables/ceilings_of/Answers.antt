@@ -1,4 +1,5 @@
-use Rattle.msrp_plan.proofs.Common.{ℕ, ◌++◌, ◌∷◌, [], List, ap, sym, ◌∙◌, arith, length, map, range_with_len, length-map-range_with_len, map-range_with_len_more, local_ceiling}
+use Rattle.std.proofs.Common.{◌++◌, ◌∷◌, ◌∙◌}
+use Rattle.msrp_plan.proofs.Common.{ℕ, [], List, ap, sym, arith, length, map, range_with_len, length-map-range_with_len, map-range_with_len_more, local_ceiling}
 use Rattle.msrp_system.proofs.tables.ceilings_of.Goals as goal
 
 pub push_reserved-requires : goal.push_reserved-requires

@@ -1,4 +1,5 @@
-use Rattle.msrp_plan.proofs.Common.{◌-◌, ◌∙◌, sym, ap, arith, nat_eq, list_any}
+use Rattle.std.proofs.Common.{◌-◌, ◌∙◌}
+use Rattle.msrp_plan.proofs.Common.{sym, ap, arith, nat_eq, list_any}
 use Rattle.msrp_levels.proofs.DistinctDeadlines.{distinct_again, distinct_push, distinct_levels}
 use Rattle.msrp_system.proofs.tables.distinct_deadlines.Goals as goal
 

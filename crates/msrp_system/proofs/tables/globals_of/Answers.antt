@@ -1,4 +1,5 @@
-use Rattle.msrp_plan.proofs.Common.{Bool, ◌++◌, ◌∷◌, [], List, ap, sym, ◌∙◌, arith, length, map, range_with_len, length-map-range_with_len, map-range_with_len_more, is_global}
+use Rattle.std.proofs.Common.{◌++◌, ◌∷◌, ◌∙◌}
+use Rattle.msrp_plan.proofs.Common.{Bool, [], List, ap, sym, arith, length, map, range_with_len, length-map-range_with_len, map-range_with_len_more, is_global}
 use Rattle.msrp_system.proofs.tables.globals_of.Goals as goal
 
 pub push_reserved-requires : goal.push_reserved-requires

@@ -1,4 +1,5 @@
-use Rattle.msrp_plan.proofs.Common.{◌≡◌, map, length, range_with_len, vec_capacity, is_global}
+use Rattle.std.proofs.Common.{◌≡◌}
+use Rattle.msrp_plan.proofs.Common.{map, length, range_with_len, vec_capacity, is_global}
 use Rattle.msrp_system.proofs.tables.globals_of.Given as goal
 
 abbrev pub invariant-loop-r : goal.invariant-loop-r

@@ -1,4 +1,5 @@
-use Rattle.msrp_plan.proofs.Common.{ap, sym, ◌∙◌, ◌&&◌, arith, list_any, uses}
+use Rattle.std.proofs.Common.{◌∙◌, ◌&&◌}
+use Rattle.msrp_plan.proofs.Common.{ap, sym, arith, list_any, uses}
 use Rattle.std.proofs.lemmas.List.{take_all}
 use Rattle.msrp_system.specs.Inside.Views.{used_elsewhere}
 use Rattle.msrp_system.proofs.GatheredTasks.{global_is}

@@ -1,4 +1,5 @@
-use Rattle.msrp_plan.proofs.Common.{◌≡◌, ◌&&◌, false, take, list_any, uses}
+use Rattle.std.proofs.Common.{◌≡◌, ◌&&◌}
+use Rattle.msrp_plan.proofs.Common.{false, take, list_any, uses}
 use Rattle.msrp_system.specs.Inside.Views.{used_elsewhere}
 use Rattle.msrp_system.proofs.tables.is_global.Given as goal
 

@@ -1,4 +1,5 @@
-use Rattle.msrp_plan.proofs.Common.{◌≡◌, false, take}
+use Rattle.std.proofs.Common.{◌≡◌}
+use Rattle.msrp_plan.proofs.Common.{false, take}
 use Rattle.msrp_system.specs.Inside.Views.{used_elsewhere}
 use Rattle.msrp_system.proofs.tables.is_used_elsewhere.Given as goal
 

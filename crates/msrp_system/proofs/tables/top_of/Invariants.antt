@@ -1,4 +1,5 @@
-use Rattle.msrp_plan.proofs.Common.{◌≡◌, ◌==◌, map, take, filter, greatest, level_of}
+use Rattle.std.proofs.Common.{◌≡◌, ◌==◌}
+use Rattle.msrp_plan.proofs.Common.{map, take, filter, greatest, level_of}
 use Rattle.msrp_system.proofs.tables.top_of.Given as goal
 
 abbrev pub invariant-loop-t : goal.invariant-loop-t

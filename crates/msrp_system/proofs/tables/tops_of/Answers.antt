@@ -1,4 +1,5 @@
-use Rattle.msrp_plan.proofs.Common.{ℕ, ◌++◌, ◌∷◌, [], List, ap, sym, ◌∙◌, arith, length, map, range_with_len, length-map-range_with_len, map-range_with_len_more, top}
+use Rattle.std.proofs.Common.{◌++◌, ◌∷◌, ◌∙◌}
+use Rattle.msrp_plan.proofs.Common.{ℕ, [], List, ap, sym, arith, length, map, range_with_len, length-map-range_with_len, map-range_with_len_more, top}
 use Rattle.msrp_system.proofs.tables.tops_of.Goals as goal
 
 pub push_reserved-requires : goal.push_reserved-requires

@@ -1,4 +1,5 @@
-use Rattle.msrp_plan.proofs.Common.{◌≡◌, map, range_with_len, vec_capacity, top}
+use Rattle.std.proofs.Common.{◌≡◌}
+use Rattle.msrp_plan.proofs.Common.{map, range_with_len, vec_capacity, top}
 use Rattle.msrp_system.proofs.tables.tops_of.Given as goal
 
 abbrev pub invariant-loop-c : goal.invariant-loop-c

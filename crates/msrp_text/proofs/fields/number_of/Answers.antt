@@ -1,4 +1,5 @@
-use Rattle.msrp_plan.proofs.Common.{arith, sym, ◌∙◌}
+use Rattle.std.proofs.Common.{◌∙◌}
+use Rattle.msrp_plan.proofs.Common.{arith, sym}
 use Rattle.msrp_text.proofs.Digits.{digit-at, number-digits, pow-nine}
 use Rattle.msrp_text.proofs.fields.number_of.Goals as goal
 

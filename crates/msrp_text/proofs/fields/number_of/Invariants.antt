@@ -1,4 +1,5 @@
-use Rattle.msrp_plan.proofs.Common.{◌≡◌, ◌^◌, ◌<◌, drop}
+use Rattle.std.proofs.Common.{◌≡◌, ◌^◌, ◌<◌}
+use Rattle.msrp_plan.proofs.Common.{drop}
 use Rattle.msrp_text.proofs.Digits.{digits_from}
 use Rattle.msrp_text.specs.Fields.{digits_value}
 use Rattle.msrp_text.proofs.fields.number_of.Given as goal

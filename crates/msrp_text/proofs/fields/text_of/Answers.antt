@@ -1,4 +1,5 @@
-use Rattle.msrp_plan.proofs.Common.{sym, ◌∙◌}
+use Rattle.std.proofs.Common.{◌∙◌}
+use Rattle.msrp_plan.proofs.Common.{sym}
 use Rattle.msrp_text.proofs.Texts.{text-kept, text-empty}
 use Rattle.msrp_text.proofs.fields.text_of.Goals as goal
 

@@ -1,4 +1,5 @@
-use Rattle.msrp_plan.proofs.Common.{rules, ◌≤◌, ◌∙◌, ◌-◌, take, drop, length, sym}
+use Rattle.std.proofs.Common.{◌≤◌, ◌∙◌, ◌-◌}
+use Rattle.msrp_plan.proofs.Common.{rules, take, drop, length, sym}
 use mathlib.Core.Bool.{true≢false}
 use Rattle.msrp_text.proofs.Fronts.{front-behind}
 use Rattle.msrp_text.proofs.FirstFields.{digit-begins}

@@ -1,4 +1,5 @@
-use Rattle.msrp_plan.proofs.Common.{◌-◌, ◌∷◌, [], length, take, Decides-eqb}
+use Rattle.std.proofs.Common.{◌-◌, ◌∷◌}
+use Rattle.msrp_plan.proofs.Common.{[], length, take, Decides-eqb}
 use Rattle.std.proofs.lemmas.Slice.Eq.{ends_is}
 use Rattle.msrp_text.proofs.front.ends_line.Goals as goal
 

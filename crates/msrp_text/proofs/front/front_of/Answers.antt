@@ -1,4 +1,5 @@
-use Rattle.msrp_plan.proofs.Common.{◌<◌, length, slice_index, sym, ◌∙◌, arith}
+use Rattle.std.proofs.Common.{◌<◌, ◌∙◌}
+use Rattle.msrp_plan.proofs.Common.{length, slice_index, sym, arith}
 use Rattle.msrp_text.proofs.Fronts.{field-ends, field-on, field-put, inside-other, line-on, other-none, plain-on}
 use Rattle.msrp_text.proofs.PlainLines.{split-ends}
 use Rattle.msrp_text.proofs.front.front_of.Goals.{then-byte-eq44+in_ok-push_field, else-byte-eq44}

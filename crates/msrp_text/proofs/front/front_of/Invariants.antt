@@ -1,4 +1,5 @@
-use Rattle.msrp_plan.proofs.Common.{◌≡◌, ◌≤◌, ◌<◌, [], true, take, drop}
+use Rattle.std.proofs.Common.{◌≡◌, ◌≤◌, ◌<◌}
+use Rattle.msrp_plan.proofs.Common.{[], true, take, drop}
 use Rattle.csv.specs.Records.{fields_of, partial_of}
 use Rattle.msrp_text.specs.Plain.{IsInLine, is_plain}
 use Rattle.msrp_text.proofs.PlainLines.{IsSplit}

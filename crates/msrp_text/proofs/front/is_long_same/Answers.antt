@@ -1,5 +1,5 @@
-use Rattle.msrp_plan.proofs.Common.{◌≡◌, ◌-◌, ◌∙◌, ap, arith, drop, length, length-drop, sym, and_parts, take_all, take_rest}
-use Rattle.std.proofs.Common.{length-take-le}
+use Rattle.msrp_plan.proofs.Common.{ap, arith, drop, length, length-drop, sym, and_parts, take_all, take_rest}
+use Rattle.std.proofs.Common.{◌≡◌, ◌-◌, ◌∙◌, length-take-le}
 use Rattle.msrp_text.proofs.Chunks.{ends-same}
 use Rattle.msrp_text.proofs.front.is_long_same.Goals as goal
 

@@ -1,5 +1,5 @@
-use Rattle.msrp_plan.proofs.Common.{◌∙◌, ap, eqb-true, sym}
-use Rattle.std.proofs.Common.{w32}
+use Rattle.msrp_plan.proofs.Common.{ap, eqb-true, sym}
+use Rattle.std.proofs.Common.{◌∙◌, w32}
 use Rattle.std.specs.Int.{to_le_bytes}
 use Rattle.std.proofs.lemmas.Nat.{le_bytes_4}
 use Rattle.msrp_text.proofs.front.is_same_4.Goals as goal

@@ -1,5 +1,5 @@
-use Rattle.msrp_plan.proofs.Common.{◌∙◌, ap, eqb-true, sym}
-use Rattle.std.proofs.Common.{w64}
+use Rattle.msrp_plan.proofs.Common.{ap, eqb-true, sym}
+use Rattle.std.proofs.Common.{◌∙◌, w64}
 use Rattle.std.specs.Int.{to_le_bytes}
 use Rattle.std.proofs.lemmas.Nat.{le_bytes_8}
 use Rattle.msrp_text.proofs.front.is_same_8.Goals as goal

@@ -1,4 +1,5 @@
-use Rattle.msrp_plan.proofs.Common.{◌≡◌, ◌-◌, ◌∙◌, drop, length, sym, take, and_parts}
+use Rattle.std.proofs.Common.{◌≡◌, ◌-◌, ◌∙◌}
+use Rattle.msrp_plan.proofs.Common.{drop, length, sym, take, and_parts}
 use Rattle.msrp_text.proofs.Chunks.{ends-same}
 use Rattle.msrp_text.proofs.front.is_short_same.Goals as goal
 

@@ -1,4 +1,5 @@
-use Rattle.msrp_plan.proofs.Common.{◌≡◌, ◌∷◌, ◌∙◌, ◌-◌, [], drop, length, take, arith, inl, inr, sym, starts_is, Decides-eqb}
+use Rattle.std.proofs.Common.{◌≡◌, ◌∷◌, ◌∙◌, ◌-◌}
+use Rattle.msrp_plan.proofs.Common.{[], drop, length, take, arith, inl, inr, sym, starts_is, Decides-eqb}
 use Rattle.std.proofs.lemmas.List.{append_cancel_left}
 use mathlib.Core.Bool.{true≢false}
 use Rattle.msrp_text.proofs.Fronts.{begins-parts, front-behind, line-ends}

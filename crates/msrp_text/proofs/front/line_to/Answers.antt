@@ -1,4 +1,5 @@
-use Rattle.msrp_plan.proofs.Common.{sym, ◌∙◌}
+use Rattle.std.proofs.Common.{◌∙◌}
+use Rattle.msrp_plan.proofs.Common.{sym}
 use Rattle.msrp_text.proofs.Fronts.{field-put}
 use Rattle.msrp_text.proofs.front.line_to.Goals as goal
 

@@ -1,4 +1,5 @@
-use Rattle.msrp_plan.proofs.Common.{rules, arith, ◌≡◌, length, sym, ◌∙◌, Err}
+use Rattle.std.proofs.Common.{◌≡◌, ◌∙◌}
+use Rattle.msrp_plan.proofs.Common.{rules, arith, length, sym, Err}
 use Rattle.csv.specs.Records.{fields_of}
 use Rattle.msrp_text.proofs.Judging.{judged-err, judged-ok, task-added, task-judged}
 use Rattle.msrp_text.proofs.positions.read_task.Goals as goal

@@ -1,4 +1,5 @@
-use Rattle.msrp_plan.proofs.Common.{rules, ◌≡◌, ◌∙◌, ap, arith, refl, Err, Some, sym}
+use Rattle.std.proofs.Common.{◌≡◌, ◌∙◌}
+use Rattle.msrp_plan.proofs.Common.{rules, ap, arith, refl, Err, Some, sym}
 use Rattle.msrp_text.specs.Reading.{plan_of}
 use Rattle.msrp_text.specs.Records.{records_left}
 use Rattle.msrp_text.specs.declared.reading.Unread.TheVariants.{Told}

@@ -1,4 +1,5 @@
-use Rattle.msrp_plan.proofs.Common.{◌≡◌, ◌+◌, ℕ, List, Some, length}
+use Rattle.std.proofs.Common.{◌≡◌, ◌+◌}
+use Rattle.msrp_plan.proofs.Common.{ℕ, List, Some, length}
 use Rattle.msrp_text.specs.Reading.{plan_of}
 use Rattle.msrp_text.specs.Records.{records_left}
 use Rattle.msrp_text.proofs.Folding.{plan_from}

@@ -1,4 +1,5 @@
-use Rattle.msrp_plan.proofs.Common.{◌≡◌, ◌==◌, arith, false, length, ne_eqb}
+use Rattle.std.proofs.Common.{◌≡◌, ◌==◌}
+use Rattle.msrp_plan.proofs.Common.{arith, false, length, ne_eqb}
 use Rattle.msrp_text.proofs.UsualLines.{step-added}
 use Rattle.msrp_text.proofs.usual.add_ahead.Goals as goal
 

@@ -1,4 +1,5 @@
-use Rattle.msrp_plan.proofs.Common.{sym, ◌∙◌}
+use Rattle.std.proofs.Common.{◌∙◌}
+use Rattle.msrp_plan.proofs.Common.{sym}
 use Rattle.msrp_text.proofs.UsualLines.{release-line}
 use Rattle.msrp_text.proofs.usual.add_release_ahead.Goals as goal
 

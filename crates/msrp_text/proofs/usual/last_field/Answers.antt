@@ -1,4 +1,5 @@
-use Rattle.msrp_plan.proofs.Common.{arith, ◌<◌, length, inl}
+use Rattle.std.proofs.Common.{◌<◌}
+use Rattle.msrp_plan.proofs.Common.{arith, length, inl}
 use Rattle.msrp_text.proofs.UsualLines.{feed-ends}
 use Rattle.msrp_text.proofs.usual.last_field.Goals as goal
 

@@ -1,4 +1,5 @@
-use Rattle.msrp_plan.proofs.Common.{◌≡◌, false, take, list_any}
+use Rattle.std.proofs.Common.{◌≡◌}
+use Rattle.msrp_plan.proofs.Common.{false, take, list_any}
 use Rattle.msrp_text.specs.Usual.{is_low}
 use Rattle.msrp_text.proofs.usual.last_field.Given as goal
 

@@ -1,4 +1,5 @@
-use Rattle.msrp_plan.proofs.Common.{Some, sym, take, ◌∙◌, Decides-eqb}
+use Rattle.std.proofs.Common.{◌∙◌}
+use Rattle.msrp_plan.proofs.Common.{Some, sym, take, Decides-eqb}
 use Rattle.std.proofs.lemmas.Slice.Eq.{strip_prefix_is}
 use Rattle.msrp_text.proofs.UsualLines.{behind}
 use Rattle.msrp_text.proofs.usual.number_behind.Goals as goal

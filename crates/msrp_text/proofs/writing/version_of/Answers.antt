@@ -1,4 +1,5 @@
-use Rattle.msrp_plan.proofs.Common.{refl, sym, ◌∙◌, arith, or_from, take_all, list_any_more, TaskModel, no_task, task_at, is_listed}
+use Rattle.std.proofs.Common.{◌∙◌}
+use Rattle.msrp_plan.proofs.Common.{refl, sym, arith, or_from, take_all, list_any_more, TaskModel, no_task, task_at, is_listed}
 use Rattle.msrp_text.proofs.Written.{not_listed}
 use Rattle.msrp_text.proofs.writing.version_of.Goals as goal
 

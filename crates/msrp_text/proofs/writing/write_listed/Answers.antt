@@ -1,4 +1,5 @@
-use Rattle.msrp_plan.proofs.Common.{◌∙◌, wrote-more}
+use Rattle.std.proofs.Common.{◌∙◌}
+use Rattle.msrp_plan.proofs.Common.{wrote-more}
 use Rattle.msrp_text.proofs.writing.write_listed.Goals as goal
 
 pub returns : goal.returns

@@ -1,4 +1,5 @@
-use Rattle.msrp_plan.proofs.Common.{◌++◌, map, ap, sym, ◌∙◌, flat_map, flat_map-append, wrote-more}
+use Rattle.std.proofs.Common.{◌++◌, ◌∙◌}
+use Rattle.msrp_plan.proofs.Common.{map, ap, sym, flat_map, flat_map-append, wrote-more}
 use Rattle.msrp_text.specs.PlanText.{head_records, plan_records, record_text, records_text, resource_record, task_records}
 use Rattle.msrp_text.proofs.Written.{wrote-as}
 use Rattle.msrp_text.proofs.writing.write_plan.Goals as goal

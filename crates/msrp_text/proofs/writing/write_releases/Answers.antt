@@ -1,4 +1,5 @@
-use Rattle.msrp_plan.proofs.Common.{◌<◌, refl, map, length, ap, sym, subst, ◌∙◌, arith, task_at, listed_ticks, wrote-nothing}
+use Rattle.std.proofs.Common.{◌<◌, ◌∙◌}
+use Rattle.msrp_plan.proofs.Common.{refl, map, length, ap, sym, subst, arith, task_at, listed_ticks, wrote-nothing}
 use Rattle.std.specs.Option.{IsSome, unwrap_or}
 use Rattle.msrp_text.specs.PlanText.{records_text, release_record}
 use Rattle.msrp_text.proofs.Written.{listed_tick, wrote-all, wrote-one}

@@ -1,4 +1,5 @@
-use Rattle.msrp_plan.proofs.Common.{ap, sym, ◌∙◌, task_at, wrote-more}
+use Rattle.std.proofs.Common.{◌∙◌}
+use Rattle.msrp_plan.proofs.Common.{ap, sym, task_at, wrote-more}
 use Rattle.msrp_text.proofs.Written.{of_a_list, wrote-as}
 use Rattle.msrp_text.specs.PlanText.{record_text}
 use Rattle.msrp_text.proofs.writing.write_times.Goals as goal

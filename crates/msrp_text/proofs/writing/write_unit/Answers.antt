@@ -1,4 +1,5 @@
-use Rattle.msrp_plan.proofs.Common.{[], ◌∷◌, sym, append-nil, get_or_from_slice_get, wrote-more}
+use Rattle.std.proofs.Common.{◌∷◌}
+use Rattle.msrp_plan.proofs.Common.{[], sym, append-nil, get_or_from_slice_get, wrote-more}
 use Rattle.msrp_plan.specs.declared.units.Step.TheVariants.{Lock, Unlock}
 use Rattle.msrp_text.specs.Writing.{run_steps}
 use Rattle.msrp_text.proofs.Written.{steps_join, wrote-as}

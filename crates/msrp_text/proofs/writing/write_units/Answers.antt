@@ -1,4 +1,5 @@
-use Rattle.msrp_plan.proofs.Common.{[], ◌++◌, arith, wrote-more, wrote-nothing}
+use Rattle.std.proofs.Common.{◌++◌}
+use Rattle.msrp_plan.proofs.Common.{[], arith, wrote-more, wrote-nothing}
 use Rattle.msrp_text.specs.Writing.{steps_before, steps_text}
 use Rattle.msrp_text.proofs.Written.{named_unit, written_all, written_more, written_none, wrote-as}
 use Rattle.msrp_text.proofs.writing.write_units.Goals as goal

@@ -1,4 +1,5 @@
-use Rattle.msrp_plan.proofs.Common.{sym, ◌∙◌}
+use Rattle.std.proofs.Common.{◌∙◌}
+use Rattle.msrp_plan.proofs.Common.{sym}
 use Rattle.msrp_plan.specs.declared.units.Phase.TheVariants.{Free}
 use Rattle.msrp_board.proofs.CoreSeats.{step_on, may_act}
 use Rattle.msrp_text_tests.proofs.board.ask.Goals as goal

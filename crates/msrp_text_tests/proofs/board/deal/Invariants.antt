@@ -1,4 +1,5 @@
-use Rattle.msrp_plan.proofs.Common.{◌≡◌, All}
+use Rattle.std.proofs.Common.{◌≡◌}
+use Rattle.msrp_plan.proofs.Common.{All}
 use Rattle.msrp_board.specs.Seats.{IsCoreSeatOn}
 use Rattle.msrp_text_tests.proofs.board.deal.Given as goal
 

@@ -1,4 +1,5 @@
-use Rattle.msrp_plan.proofs.Common.{◌<◌, ℕ, IsSome}
+use Rattle.std.proofs.Common.{◌<◌}
+use Rattle.msrp_plan.proofs.Common.{ℕ, IsSome}
 use Rattle.msrp_board.specs.Seats.{book_at}
 use Rattle.msrp_text_tests.proofs.board.end.Given as goal
 

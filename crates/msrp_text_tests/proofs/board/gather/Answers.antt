@@ -1,4 +1,5 @@
-use Rattle.msrp_plan.proofs.Common.{arith, List, ◌∷◌, [], get_or, ◌≡◌, length, ◌∙◌, sym, ap, subst, length-append, get_or_append_left}
+use Rattle.std.proofs.Common.{◌∷◌, ◌≡◌, ◌∙◌}
+use Rattle.msrp_plan.proofs.Common.{arith, List, [], get_or, length, sym, ap, subst, length-append, get_or_append_left}
 use Rattle.msrp_text_tests.specs.declared.board.Player.{Player}
 use Rattle.msrp_board.specs.Seats.{SeatModel, IsCoreSeatOn}
 use Rattle.msrp_text_tests.proofs.board.gather.Goals as goal

@@ -1,4 +1,5 @@
-use Rattle.msrp_plan.proofs.Common.{arith, List, ◌++◌, ◌≡◌, ◌≤◌, ◌∙◌, sym, ap, subst, length, take, drop, All, take-append-le, take-length}
+use Rattle.std.proofs.Common.{◌++◌, ◌≡◌, ◌≤◌, ◌∙◌}
+use Rattle.msrp_plan.proofs.Common.{arith, List, sym, ap, subst, length, take, drop, All, take-append-le, take-length}
 use Rattle.msrp_text_tests.specs.declared.board.Player.{Player}
 use Rattle.msrp_board.specs.Seats.{IsCoreSeatOn}
 use Rattle.msrp_text_tests.proofs.board.run_laps.Goals as goal

@@ -1,5 +1,5 @@
-use Rattle.msrp_plan.proofs.Common.{◌++◌, ◌∙◌, length, ap, sym, arith, flat_map, length-map, nil_from_length, take_all}
-use Rattle.std.proofs.Common.{below_more}
+use Rattle.msrp_plan.proofs.Common.{length, ap, sym, arith, flat_map, length-map, nil_from_length, take_all}
+use Rattle.std.proofs.Common.{◌++◌, ◌∙◌, below_more}
 use Rattle.msrp_trace.specs.Texts.{texts_of}
 use Rattle.msrp_trace.specs.declared.line.CoreText.{CoreText}
 use Rattle.msrp_trace.proofs.TickRows.{laid_more, text_at}

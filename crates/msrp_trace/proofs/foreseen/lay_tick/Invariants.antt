@@ -1,4 +1,5 @@
-use Rattle.msrp_plan.proofs.Common.{◌≡◌, ℕ, ◌*◌, ◌<◌, ◌≤◌, ◌++◌, [], length, take, get_or, flat_map}
+use Rattle.std.proofs.Common.{◌≡◌, ◌*◌, ◌<◌, ◌≤◌, ◌++◌}
+use Rattle.msrp_plan.proofs.Common.{ℕ, [], length, take, get_or, flat_map}
 use Rattle.msrp_trace.specs.Texts.{texts_of}
 use Rattle.msrp_trace.proofs.foreseen.lay_tick.Given as goal
 

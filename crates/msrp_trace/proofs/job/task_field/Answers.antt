@@ -1,4 +1,4 @@
-use Rattle.msrp_plan.proofs.Common.{◌∙◌}
+use Rattle.std.proofs.Common.{◌∙◌}
 use Rattle.msrp_trace.proofs.Names.{name_short}
 use Rattle.msrp_trace.proofs.job.task_field.Goals as goal
 

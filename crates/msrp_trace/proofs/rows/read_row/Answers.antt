@@ -1,4 +1,5 @@
-use Rattle.msrp_plan.proofs.Common.{rules, ◌≡◌, ◌==◌, true, false, List, ℕ, length, Option, Some, None, sym, ap, ◌∙◌, unwrap_or, has_shape, may_carry}
+use Rattle.std.proofs.Common.{◌≡◌, ◌==◌, ◌∙◌}
+use Rattle.msrp_plan.proofs.Common.{rules, true, false, List, ℕ, length, Option, Some, None, sym, ap, unwrap_or, has_shape, may_carry}
 use Rattle.msrp_plan.specs.declared.rows.Kind.TheVariants.{Idle}
 use Rattle.msrp_plan.specs.declared.rows.TextVersion.{TextVersion}
 use Rattle.csv.specs.Records.{fields_of}

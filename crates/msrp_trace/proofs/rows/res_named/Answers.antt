@@ -1,4 +1,5 @@
-use Rattle.msrp_plan.proofs.Common.{rules, ◌≡◌, Some, ap, sym, ◌∙◌}
+use Rattle.std.proofs.Common.{◌≡◌, ◌∙◌}
+use Rattle.msrp_plan.proofs.Common.{rules, Some, ap, sym}
 use Rattle.msrp_trace.proofs.Names.{same_bytes, res_found, res_unnamed}
 use Rattle.msrp_trace.proofs.rows.res_named.Goals as goal
 

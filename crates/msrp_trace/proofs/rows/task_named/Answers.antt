@@ -1,4 +1,5 @@
-use Rattle.msrp_plan.proofs.Common.{rules, ◌≡◌, sym, ◌∙◌}
+use Rattle.std.proofs.Common.{◌≡◌, ◌∙◌}
+use Rattle.msrp_plan.proofs.Common.{rules, sym}
 use Rattle.msrp_trace.proofs.Names.{same_bytes, task_found, task_unnamed}
 use Rattle.msrp_trace.proofs.rows.task_named.Goals as goal
 

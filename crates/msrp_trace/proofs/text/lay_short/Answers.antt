@@ -1,4 +1,5 @@
-use Rattle.msrp_plan.proofs.Common.{◌+◌, ◌++◌, ◌∙◌, append_assoc, ap, sym, arith, take}
+use Rattle.std.proofs.Common.{◌+◌, ◌++◌, ◌∙◌}
+use Rattle.msrp_plan.proofs.Common.{append_assoc, ap, sym, arith, take}
 use Rattle.std.proofs.Math.Seq.{take-add}
 use Rattle.std.proofs.lemmas.Simd.{length-chunk, length-put_chunk, take_more_put_chunk}
 use Rattle.std.specs.Simd.Lanes.{chunk, put_chunk}

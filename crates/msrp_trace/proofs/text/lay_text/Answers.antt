@@ -1,4 +1,5 @@
-use Rattle.msrp_plan.proofs.Common.{◌≡◌, ◌∙◌, ◌++◌, ◌+◌, ◌-◌, append_assoc, arith, ap, drop, length, subst, sym, take, take-append-drop, take_all}
+use Rattle.std.proofs.Common.{◌≡◌, ◌∙◌, ◌++◌, ◌+◌, ◌-◌}
+use Rattle.msrp_plan.proofs.Common.{append_assoc, arith, ap, drop, length, subst, sym, take, take-append-drop, take_all}
 use Rattle.std.proofs.lemmas.List.{length-drop}
 use Rattle.msrp_trace.proofs.Records.{laid}
 use Rattle.msrp_trace.proofs.text.lay_text.Goals as goal

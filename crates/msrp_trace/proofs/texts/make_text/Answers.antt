@@ -1,4 +1,5 @@
-use Rattle.msrp_plan.proofs.Common.{ℕ, List, ap, set, ◌∙◌}
+use Rattle.std.proofs.Common.{◌∙◌}
+use Rattle.msrp_plan.proofs.Common.{ℕ, List, ap, set}
 use Rattle.std.proofs.lemmas.List.{map-set}
 use Rattle.msrp_trace.specs.Texts.{texts_of}
 use Rattle.msrp_trace.specs.declared.line.CoreText.{CoreText}

@@ -1,4 +1,5 @@
-use Rattle.msrp_plan.proofs.Common.{ap, sym, ◌∙◌, get_or_read}
+use Rattle.std.proofs.Common.{◌∙◌}
+use Rattle.msrp_plan.proofs.Common.{ap, sym, get_or_read}
 use Rattle.std.proofs.Math.ListN.{get_or-map}
 use Rattle.msrp_trace.specs.declared.line.CoreText.{CoreText}
 use Rattle.msrp_trace.proofs.Shown.{no_text}

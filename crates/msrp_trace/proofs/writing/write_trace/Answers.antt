@@ -1,4 +1,5 @@
-use Rattle.msrp_plan.proofs.Common.{◌≡◌, true, sym, ap, subst, ◌∙◌, arith, append-nil, get_or}
+use Rattle.std.proofs.Common.{◌≡◌, ◌∙◌}
+use Rattle.msrp_plan.proofs.Common.{true, sym, ap, subst, arith, append-nil, get_or}
 use Rattle.std.proofs.lemmas.List.Sums.{AllPass-from_list_all}
 use Rattle.msrp_trace.specs.Gathering.{WriterModel}
 use Rattle.msrp_trace.specs.TraceText.{head_text, is_named, row_text}

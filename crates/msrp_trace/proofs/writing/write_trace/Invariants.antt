@@ -1,4 +1,5 @@
-use Rattle.msrp_plan.proofs.Common.{◌≡◌, [], take}
+use Rattle.std.proofs.Common.{◌≡◌}
+use Rattle.msrp_plan.proofs.Common.{[], take}
 use Rattle.msrp_trace.specs.Gathering.{Gathers}
 use Rattle.msrp_trace.specs.TraceText.{trace_text}
 use Rattle.msrp_trace.proofs.writing.write_trace.Given as goal

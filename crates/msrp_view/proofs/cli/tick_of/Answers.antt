@@ -1,4 +1,5 @@
-use Rattle.msrp_plan.proofs.Common.{rules, ◌≡◌, ◌∙◌, Some, None, Ok, Err, ap, ok_or, option_map, sym, false, true, is_ascii_digit, list_all}
+use Rattle.std.proofs.Common.{◌≡◌, ◌∙◌}
+use Rattle.msrp_plan.proofs.Common.{rules, Some, None, Ok, Err, ap, ok_or, option_map, sym, false, true, is_ascii_digit, list_all}
 use Rattle.std.proofs.lemmas.Result.{MatchResult-at_err, MatchResult-at_ok}
 use Rattle.msrp_faults.specs.declared.faults.CliFault.TheVariants.{Usage}
 use Rattle.msrp_view.specs.CommandLine.{tick_of}

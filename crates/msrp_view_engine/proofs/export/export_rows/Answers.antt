@@ -1,4 +1,5 @@
-use Rattle.msrp_plan.proofs.Common.{rules, refl, ◌≡◌, ◌++◌, ◌∷◌, [], Ok, Err, Some, None, ap, sym, subst, ◌∙◌, inr, arith, length-append, append-nil, Wrote, PlanModel, fault_in, verdict, IsPlan, wrote-more}
+use Rattle.std.proofs.Common.{◌≡◌, ◌++◌, ◌∷◌, ◌∙◌}
+use Rattle.msrp_plan.proofs.Common.{rules, refl, [], Ok, Err, Some, None, ap, sym, subst, inr, arith, length-append, append-nil, Wrote, PlanModel, fault_in, verdict, IsPlan, wrote-more}
 use Rattle.msrp_audit.specs.Audits.{answer_of}
 use Rattle.msrp_export.specs.Exports.{part_text, row_text}
 use Rattle.msrp_export.specs.Changes.{fault_text, head_text}

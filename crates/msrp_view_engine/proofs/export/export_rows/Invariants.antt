@@ -1,4 +1,5 @@
-use Rattle.msrp_plan.proofs.Common.{◌≡◌, ◌≤◌, ◌*◌, ◌-◌, List, length, Wrote}
+use Rattle.std.proofs.Common.{◌≡◌, ◌≤◌, ◌*◌, ◌-◌}
+use Rattle.msrp_plan.proofs.Common.{List, length, Wrote}
 use Rattle.msrp_plan.specs.declared.rows.Row.{Row}
 use Rattle.msrp_export.specs.Exports.{HasExported, part_text}
 use Rattle.msrp_engine.proofs.RowsJudged.{HaveCome}

@@ -1,4 +1,5 @@
-use Rattle.msrp_plan.proofs.Common.{rules, ◌≡◌, ◌++◌, ◌∷◌, [], ◌+◌, ◌<◌, ◌*◌, ◌/◌, true, false, None, Some, Ok, Err, IfErr, length, ap, sym, subst, ◌∙◌, length-append, true≢false, PlanModel, is_in_turn, fault_in, verdict}
+use Rattle.std.proofs.Common.{◌≡◌, ◌++◌, ◌∷◌, ◌+◌, ◌<◌, ◌*◌, ◌/◌, ◌∙◌}
+use Rattle.msrp_plan.proofs.Common.{rules, [], true, false, None, Some, Ok, Err, IfErr, length, ap, sym, subst, length-append, true≢false, PlanModel, is_in_turn, fault_in, verdict}
 use Rattle.msrp_audit.specs.Audits.{IsBroken, IsOutOfTurn, answer_of}
 use Rattle.msrp_audit.proofs.Judging.{fault_told, good_told}
 use Rattle.msrp_trace.specs.Readers.{HasReadBehind, StandsBehind}

@@ -1,4 +1,5 @@
-use Rattle.msrp_plan.proofs.Common.{◌≡◌, ◌*◌, ◌-◌, ℕ, List, Some, None}
+use Rattle.std.proofs.Common.{◌≡◌, ◌*◌, ◌-◌}
+use Rattle.msrp_plan.proofs.Common.{ℕ, List, Some, None}
 use Rattle.msrp_plan.specs.declared.rows.Row.{Row}
 use Rattle.msrp_audit.specs.Audits.{HasFed}
 use Rattle.msrp_trace.specs.Reading.{Told}

@@ -1,4 +1,5 @@
-use Rattle.msrp_plan.proofs.Common.{rules, ◌≡◌, Err}
+use Rattle.std.proofs.Common.{◌≡◌}
+use Rattle.msrp_plan.proofs.Common.{rules, Err}
 use Rattle.msrp_text.specs.Reading.{csv_records, plan_of}
 use Rattle.msrp_view_engine.proofs.Explaining.{explained-why, unexplained-why}
 use Rattle.msrp_view_engine.proofs.why.why_of_texts.Goals as goal

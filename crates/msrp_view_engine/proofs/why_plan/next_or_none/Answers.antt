@@ -1,4 +1,5 @@
-use Rattle.msrp_plan.proofs.Common.{rules, ◌≡◌, ◌∙◌, ℕ, List, true, false, ap, sym}
+use Rattle.std.proofs.Common.{◌≡◌, ◌∙◌}
+use Rattle.msrp_plan.proofs.Common.{rules, ℕ, List, true, false, ap, sym}
 use Rattle.msrp_text.specs.Reading.{record_at}
 use Rattle.msrp_text.proofs.Remaining.{gave-none, gave-one}
 use Rattle.msrp_view_engine.proofs.why_plan.next_or_none.Goals as goal

@@ -1,4 +1,5 @@
-use Rattle.msrp_plan.proofs.Common.{rules, ◌≡◌, ◌∙◌, ◌+◌, ◌-◌, ℕ, List, [], ◌∷◌, ◌++◌, Some, true, false, ap, arith, drop, map, take, slice_index_or, get_or-drop, map-append}
+use Rattle.std.proofs.Common.{◌≡◌, ◌∙◌, ◌+◌, ◌-◌, ◌∷◌, ◌++◌}
+use Rattle.msrp_plan.proofs.Common.{rules, ℕ, List, [], Some, true, false, ap, arith, drop, map, take, slice_index_or, get_or-drop, map-append}
 use Rattle.csv.specs.Records.{fields_of}
 use Rattle.msrp_text.specs.Reading.{csv_records}
 use Rattle.msrp_text.proofs.Remaining.{gave-none, gave-one}

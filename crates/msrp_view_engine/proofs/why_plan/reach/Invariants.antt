@@ -1,4 +1,5 @@
-use Rattle.msrp_plan.proofs.Common.{◌≡◌, ◌≤◌, ◌-◌, Some, drop, map, take}
+use Rattle.std.proofs.Common.{◌≡◌, ◌≤◌, ◌-◌}
+use Rattle.msrp_plan.proofs.Common.{Some, drop, map, take}
 use Rattle.csv.specs.Records.{fields_of}
 use Rattle.msrp_text.specs.Reading.{csv_records}
 use Rattle.msrp_text.specs.Records.{records_left}

@@ -1,4 +1,5 @@
-use Rattle.msrp_plan.proofs.Common.{rules, ◌≡◌, Ok, IfOk, sym, subst}
+use Rattle.std.proofs.Common.{◌≡◌}
+use Rattle.msrp_plan.proofs.Common.{rules, Ok, IfOk, sym, subst}
 use Rattle.msrp_text.specs.Reading.{csv_records, plan_of}
 use Rattle.msrp_view_engine.specs.Explaining.{AreWordsOn}
 use Rattle.msrp_view_engine.proofs.why_plan.why_of_plan.Goals as goal

@@ -1,6 +1,6 @@
-use Rattle.msrp_plan.proofs.Common.{◌≡◌, ◌<◌, ◌≤◌, ◌*◌, List, None, length, range_with_len}
+use Rattle.msrp_plan.proofs.Common.{List, None, length, range_with_len}
 use Rattle.msrp_plan.specs.declared.rows.Row.{Row}
-use Rattle.std.proofs.Common.{filter}
+use Rattle.std.proofs.Common.{◌≡◌, ◌<◌, ◌≤◌, ◌*◌, filter}
 use Rattle.msrp_audit.specs.Audits.{HasFed, has_turn}
 use Rattle.msrp_why.proofs.causes.cores_with_turn.Given as goal
 

@@ -1,4 +1,5 @@
-use Rattle.msrp_plan.proofs.Common.{◌++◌, ◌∷◌, [], refl, sym, subst, IsSomeAnd, IsLegal, legal_due, each_at}
+use Rattle.std.proofs.Common.{◌++◌, ◌∷◌}
+use Rattle.msrp_plan.proofs.Common.{[], refl, sym, subst, IsSomeAnd, IsLegal, legal_due, each_at}
 use Rattle.msrp_why.specs.Exercise.{AreTurnCounts}
 use Rattle.msrp_why.specs.Noted.{IsCoreNoted}
 use Rattle.msrp_why.specs.declared.cores.CoreNotes.{CoreNotes}

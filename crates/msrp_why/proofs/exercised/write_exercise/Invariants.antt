@@ -1,4 +1,5 @@
-use Rattle.msrp_plan.proofs.Common.{◌++◌, flat_map, range_with_len, Wrote}
+use Rattle.std.proofs.Common.{◌++◌}
+use Rattle.msrp_plan.proofs.Common.{flat_map, range_with_len, Wrote}
 use Rattle.msrp_why.specs.ExerciseText.{counts_line, turns_text}
 use Rattle.msrp_why.proofs.exercised.write_exercise.Given as goal
 

@@ -1,4 +1,5 @@
-use Rattle.msrp_plan.proofs.Common.{◌<◌, ◌≤◌, [], sym, subst, arith}
+use Rattle.std.proofs.Common.{◌<◌, ◌≤◌}
+use Rattle.msrp_plan.proofs.Common.{[], sym, subst, arith}
 use Rattle.msrp_why.proofs.Deciding.{cores_more}
 use Rattle.msrp_why.proofs.notes.cores_of.Goals as goal
 

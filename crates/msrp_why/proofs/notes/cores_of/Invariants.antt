@@ -1,4 +1,5 @@
-use Rattle.msrp_plan.proofs.Common.{◌≡◌, ◌≤◌, ℕ, [], Some, length, slice_get}
+use Rattle.std.proofs.Common.{◌≡◌, ◌≤◌}
+use Rattle.msrp_plan.proofs.Common.{ℕ, [], Some, length, slice_get}
 use Rattle.std.specs.Vec.{vec_capacity}
 use Rattle.msrp_why.specs.Noted.{IsCoreNoted}
 use Rattle.msrp_why.specs.declared.cores.CoreNotes.{CoreNotes}

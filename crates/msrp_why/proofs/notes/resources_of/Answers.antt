@@ -1,4 +1,5 @@
-use Rattle.msrp_plan.proofs.Common.{◌+◌, None, refl, sym, subst, arith, common_steps}
+use Rattle.std.proofs.Common.{◌+◌}
+use Rattle.msrp_plan.proofs.Common.{None, refl, sym, subst, arith, common_steps}
 use Rattle.msrp_why.proofs.Noting.{AreEmpty, empty_more}
 use Rattle.msrp_why.proofs.notes.resources_of.Goals as goal
 

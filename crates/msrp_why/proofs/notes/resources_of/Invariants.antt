@@ -1,4 +1,4 @@
-use Rattle.msrp_plan.proofs.Common.{◌≤◌}
+use Rattle.std.proofs.Common.{◌≤◌}
 use Rattle.std.specs.Vec.{vec_capacity}
 use Rattle.msrp_why.proofs.Noting.{AreEmpty}
 use Rattle.msrp_why.proofs.notes.resources_of.Given as goal

@@ -1,5 +1,5 @@
-use Rattle.msrp_plan.proofs.Common.{◌≡◌, ◌∙◌, ◌++◌, ◌&&◌, ◌<◌, [], ap, length, nat_lt, sym, true, codes, decimal, if◌then◌else◌, wrote-more}
-use Rattle.std.proofs.Common.{lt-ltb}
+use Rattle.msrp_plan.proofs.Common.{[], ap, length, nat_lt, sym, true, codes, decimal, wrote-more}
+use Rattle.std.proofs.Common.{◌≡◌, ◌∙◌, ◌++◌, ◌&&◌, ◌<◌, if◌then◌else◌, lt-ltb}
 use Rattle.msrp_levels.specs.Users.{ceiling_at}
 use Rattle.msrp_text.proofs.Written.{wrote-as}
 use Rattle.msrp_why.specs.ResourceText.{ceiling_part}

@@ -1,4 +1,5 @@
-use Rattle.msrp_plan.proofs.Common.{◌≡◌, ◌∙◌, arith, length}
+use Rattle.std.proofs.Common.{◌≡◌, ◌∙◌}
+use Rattle.msrp_plan.proofs.Common.{arith, length}
 use Rattle.msrp_why.specs.ResourceText.{held_lines}
 use Rattle.msrp_why.proofs.Written.{wrote-item}
 use Rattle.msrp_why.proofs.resources.write_held.Goals as goal

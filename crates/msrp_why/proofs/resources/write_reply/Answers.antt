@@ -1,4 +1,5 @@
-use Rattle.msrp_plan.proofs.Common.{◌≡◌, ◌∙◌, Some, arith, length, refl, slice_get, subst, sym, slice_get_past, slice_get_read, Wrote, wrote-nothing}
+use Rattle.std.proofs.Common.{◌≡◌, ◌∙◌}
+use Rattle.msrp_plan.proofs.Common.{Some, arith, length, refl, slice_get, subst, sym, slice_get_past, slice_get_read, Wrote, wrote-nothing}
 use Rattle.msrp_why.specs.ResourceText.{noted_lines, reply_text}
 use Rattle.msrp_why.proofs.resources.write_reply.Goals as goal
 

@@ -1,5 +1,5 @@
-use Rattle.msrp_plan.proofs.Common.{◌≡◌, ◌<◌, Some, length, refl, ap, sym, ◌∙◌, subst, slice_get, true≢false, slice_get_read}
-use Rattle.std.proofs.Common.{lt-ltb}
+use Rattle.msrp_plan.proofs.Common.{Some, length, refl, ap, sym, subst, slice_get, true≢false, slice_get_read}
+use Rattle.std.proofs.Common.{◌≡◌, ◌<◌, ◌∙◌, lt-ltb}
 use Rattle.msrp_why.proofs.sections.is_open_at.Goals as goal
 
 pub returns-in-Some : goal.returns-in-Some

@@ -1,4 +1,5 @@
-use Rattle.msrp_plan.proofs.Common.{rules, ◌≡◌, ◌∙◌, ℕ, ◌+◌, ◌^◌, ◌≤◌, ◌<◌, Bool, true, false, List, [], ◌∷◌, ◌++◌, Some, ap, sym, subst, arith, cond, count_by, length, length-append, nat_lt, slice_get, take, task_at, places_push}
+use Rattle.std.proofs.Common.{◌≡◌, ◌∙◌, ◌+◌, ◌^◌, ◌≤◌, ◌<◌, ◌∷◌, ◌++◌}
+use Rattle.msrp_plan.proofs.Common.{rules, ℕ, Bool, true, false, List, [], Some, ap, sym, subst, arith, cond, count_by, length, length-append, nat_lt, slice_get, take, task_at, places_push}
 use Rattle.msrp_plan.specs.declared.units.Op.{Op}
 use Rattle.msrp_plan.proofs.TaskUnits.UnitCounts.{count_next}
 use Rattle.msrp_why.specs.Exercise.{is_lock, is_unlock, one_if}

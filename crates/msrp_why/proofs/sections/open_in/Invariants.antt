@@ -1,4 +1,5 @@
-use Rattle.msrp_plan.proofs.Common.{◌≡◌, ◌≤◌, ℕ, Bool, Some, count_by, length, nat_lt, slice_get, take, task_at}
+use Rattle.std.proofs.Common.{◌≡◌, ◌≤◌}
+use Rattle.msrp_plan.proofs.Common.{ℕ, Bool, Some, count_by, length, nat_lt, slice_get, take, task_at}
 use Rattle.std.specs.Vec.{vec_capacity}
 use Rattle.msrp_why.specs.Exercise.{is_lock, is_unlock}
 use Rattle.msrp_why.proofs.sections.open_in.Given as goal

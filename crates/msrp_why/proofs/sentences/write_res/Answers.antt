@@ -1,4 +1,5 @@
-use Rattle.msrp_plan.proofs.Common.{◌∙◌, [], ap, sym, wrote-more}
+use Rattle.std.proofs.Common.{◌∙◌}
+use Rattle.msrp_plan.proofs.Common.{[], ap, sym, wrote-more}
 use Rattle.std.specs.Prelude.{unwrap_or}
 use Rattle.msrp_why.proofs.sentences.write_res.Goals as goal
 

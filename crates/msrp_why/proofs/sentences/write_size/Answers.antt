@@ -1,4 +1,5 @@
-use Rattle.msrp_plan.proofs.Common.{◌∙◌, wrote-more}
+use Rattle.std.proofs.Common.{◌∙◌}
+use Rattle.msrp_plan.proofs.Common.{wrote-more}
 use Rattle.msrp_why.proofs.sentences.write_size.Goals as goal
 
 pub returns : goal.returns

@@ -1,4 +1,5 @@
-use Rattle.msrp_plan.proofs.Common.{ap, ◌∙◌, level, wrote-more}
+use Rattle.std.proofs.Common.{◌∙◌}
+use Rattle.msrp_plan.proofs.Common.{ap, level, wrote-more}
 use Rattle.msrp_plan.specs.declared.ids.JobKey.{JobKey}
 use Rattle.msrp_why.proofs.telling.write_known.Goals as goal
 

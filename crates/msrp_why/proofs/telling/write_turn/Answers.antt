@@ -1,4 +1,5 @@
-use Rattle.msrp_plan.proofs.Common.{◌≡◌, ◌/◌, ◌-◌, ap, ◌∙◌, wrote-more}
+use Rattle.std.proofs.Common.{◌≡◌, ◌/◌, ◌-◌, ◌∙◌}
+use Rattle.msrp_plan.proofs.Common.{ap, wrote-more}
 use Rattle.msrp_why.proofs.telling.write_turn.Goals as goal
 
 pub returns : goal.returns

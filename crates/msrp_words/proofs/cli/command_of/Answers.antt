@@ -1,5 +1,5 @@
-use Rattle.msrp_plan.proofs.Common.{◌≡◌, ◌∙◌, [], map, ap, subst, sym, inl, inr}
-use Rattle.std.proofs.Common.{string_bytes}
+use Rattle.msrp_plan.proofs.Common.{[], map, ap, subst, sym, inl, inr}
+use Rattle.std.proofs.Common.{◌≡◌, ◌∙◌, string_bytes}
 use Rattle.clap.specs.Words.{HasKind, app_of, fault_of, is_simple, is_simple_and_free, kind_of, subcommand_of, subcommand_rows_of}
 use Rattle.msrp_words.specs.CommandLine.{IsAnswered, IsChosen, answer_to, grammar}
 use Rattle.msrp_words.proofs.Grammar.{answered_fault, grammar_free, grammar_simple}

@@ -1,4 +1,5 @@
-use Rattle.msrp_plan.proofs.Common.{rules, ◌≡◌}
+use Rattle.std.proofs.Common.{◌≡◌}
+use Rattle.msrp_plan.proofs.Common.{rules}
 use Rattle.clap.specs.Words.{app_of, new_app}
 use Rattle.msrp_words.proofs.cli.command_with.Goals as goal
 

@@ -1,4 +1,5 @@
-use Rattle.msrp_plan.proofs.Common.{rules, ◌≡◌, refl, codes}
+use Rattle.std.proofs.Common.{◌≡◌}
+use Rattle.msrp_plan.proofs.Common.{rules, refl, codes}
 use Rattle.clap.specs.Words.{app_of, new_app}
 use Rattle.msrp_words.specs.CommandLine.{grammar}
 use Rattle.msrp_words.proofs.cli.grammar.Goals as goal

@@ -1,4 +1,5 @@
-use Rattle.msrp_plan.proofs.Common.{rules, ◌≡◌, Ok, Err, ok_or, refl}
+use Rattle.std.proofs.Common.{◌≡◌}
+use Rattle.msrp_plan.proofs.Common.{rules, Ok, Err, ok_or, refl}
 use Rattle.clap.specs.Words.{found_of, rows_of}
 use Rattle.msrp_cli.specs.Arguments.{paths_of}
 use Rattle.msrp_faults.specs.declared.faults.CliFault.TheVariants.{Usage}

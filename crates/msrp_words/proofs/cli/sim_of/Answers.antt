@@ -1,4 +1,5 @@
-use Rattle.msrp_plan.proofs.Common.{rules, ◌≡◌, Ok, Err, codes, ok_or, refl}
+use Rattle.std.proofs.Common.{◌≡◌}
+use Rattle.msrp_plan.proofs.Common.{rules, Ok, Err, codes, ok_or, refl}
 use Rattle.clap.specs.Words.{first_of, found_of, rows_of}
 use Rattle.msrp_faults.specs.declared.faults.CliFault.TheVariants.{Usage}
 use Rattle.msrp_words.specs.Words.{order_of}

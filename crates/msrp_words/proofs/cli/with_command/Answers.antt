@@ -1,4 +1,5 @@
-use Rattle.msrp_plan.proofs.Common.{rules, ◌≡◌, Ok, IfOk, subst, IfOk-weaker}
+use Rattle.std.proofs.Common.{◌≡◌}
+use Rattle.msrp_plan.proofs.Common.{rules, Ok, IfOk, subst, IfOk-weaker}
 use Rattle.msrp_words.specs.CommandLine.{Takes}
 use Rattle.msrp_words.proofs.Grammar.{adds_command}
 use Rattle.msrp_words.proofs.cli.with_command.Goals as goal

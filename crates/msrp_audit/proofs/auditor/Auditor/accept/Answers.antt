@@ -1,4 +1,5 @@
-use Rattle.msrp_plan.proofs.Common.{◌≡◌, ◌+◌, ◌-◌, ◌*◌, ◌<◌, ◌++◌, ◌∷◌, [], sym, subst, arith}
+use Rattle.std.proofs.Common.{◌≡◌, ◌+◌, ◌-◌, ◌*◌, ◌<◌, ◌++◌, ◌∷◌}
+use Rattle.msrp_plan.proofs.Common.{[], sym, subst, arith}
 use Rattle.msrp_audit.specs.Audits.{AuditorModel, HasFed, Awaits, auditor_view, place_in}
 use Rattle.msrp_audit.proofs.Judging.{came}
 use Rattle.msrp_audit.proofs.auditor.Auditor.accept.Goals as goal

@@ -1,4 +1,5 @@
-use Rattle.msrp_plan.proofs.Common.{◌≡◌, ◌+◌, ◌*◌, ◌<◌, ◌≤◌, ◌%◌, ◌/◌, ℕ, sym, ◌∙◌, arith, div-add-mod, mul-le-mul_left}
+use Rattle.std.proofs.Common.{◌≡◌, ◌+◌, ◌*◌, ◌<◌, ◌≤◌, ◌%◌, ◌/◌, ◌∙◌}
+use Rattle.msrp_plan.proofs.Common.{ℕ, sym, arith, div-add-mod, mul-le-mul_left}
 use Rattle.msrp_audit.specs.Audits.{place_in}
 use Rattle.msrp_audit.proofs.Judging.{place_now, tick_left}
 use Rattle.msrp_audit.proofs.auditor.Auditor.begins_tick.Goals as goal

@@ -1,4 +1,5 @@
-use Rattle.msrp_plan.proofs.Common.{◌-◌, ◌%◌, ap, sym, ◌∙◌}
+use Rattle.std.proofs.Common.{◌-◌, ◌%◌, ◌∙◌}
+use Rattle.msrp_plan.proofs.Common.{ap, sym}
 use Rattle.msrp_audit.specs.Audits.{has_turn}
 use Rattle.msrp_audit.proofs.Judging.{place_now}
 use Rattle.msrp_audit.proofs.auditor.Auditor.due_in_order.Goals as goal

@@ -1,4 +1,5 @@
-use Rattle.msrp_plan.proofs.Common.{Some, sym, ap, ◌∙◌, ◌+◌}
+use Rattle.std.proofs.Common.{◌∙◌, ◌+◌}
+use Rattle.msrp_plan.proofs.Common.{Some, sym, ap}
 use Rattle.msrp_audit.proofs.Judging.{fault_next}
 use Rattle.msrp_audit.proofs.auditor.Auditor.fault_out_of_turn.Goals as goal
 

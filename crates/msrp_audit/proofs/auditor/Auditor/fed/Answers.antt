@@ -1,4 +1,5 @@
-use Rattle.msrp_plan.proofs.Common.{◌≤◌, ◌*◌, ◌+◌, ◌-◌, ℕ, sym, subst, arith, mul-le-mul_left}
+use Rattle.std.proofs.Common.{◌≤◌, ◌*◌, ◌+◌, ◌-◌}
+use Rattle.msrp_plan.proofs.Common.{ℕ, sym, subst, arith, mul-le-mul_left}
 use Rattle.msrp_audit.specs.Audits.{place_in}
 use Rattle.msrp_audit.proofs.auditor.Auditor.fed.Goals as goal
 

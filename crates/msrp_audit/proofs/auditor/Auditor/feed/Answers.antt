@@ -1,4 +1,5 @@
-use Rattle.msrp_plan.proofs.Common.{◌++◌, ◌∷◌, [], ap, sym, ◌∙◌}
+use Rattle.std.proofs.Common.{◌++◌, ◌∷◌, ◌∙◌}
+use Rattle.msrp_plan.proofs.Common.{[], ap, sym}
 use Rattle.msrp_audit.specs.Audits.{AuditorModel, answer_of}
 use Rattle.msrp_audit.proofs.Judging.{faulty, stays_faulty}
 use Rattle.msrp_audit.proofs.auditor.Auditor.feed.Goals as goal

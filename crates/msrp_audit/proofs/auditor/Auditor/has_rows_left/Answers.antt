@@ -1,5 +1,5 @@
-use Rattle.msrp_plan.proofs.Common.{◌≡◌, ◌*◌, ◌<◌, None, true, not, nat_lt, ap, sym, ◌∙◌, subst, lt-ltb, ltb-true}
-use Rattle.std.proofs.Common.{◌↔◌}
+use Rattle.msrp_plan.proofs.Common.{None, true, not, nat_lt, ap, sym, subst, lt-ltb, ltb-true}
+use Rattle.std.proofs.Common.{◌≡◌, ◌*◌, ◌<◌, ◌∙◌, ◌↔◌}
 use Rattle.msrp_audit.specs.Audits.{AuditorModel, place_in}
 use Rattle.msrp_audit.proofs.Judging.{left_in, none_of, tick_left, place_low}
 use Rattle.msrp_audit.proofs.auditor.Auditor.has_rows_left.Goals as goal

@@ -1,4 +1,5 @@
-use Rattle.msrp_plan.proofs.Common.{◌≡◌, ◌+◌, ◌*◌, ◌/◌, ◌<◌, ◌==◌, List, Some, length, option_map, slice_get, refl, ap, sym, ◌∙◌, subst}
+use Rattle.std.proofs.Common.{◌≡◌, ◌+◌, ◌*◌, ◌/◌, ◌<◌, ◌==◌, ◌∙◌}
+use Rattle.msrp_plan.proofs.Common.{List, Some, length, option_map, slice_get, refl, ap, sym, subst}
 use Rattle.std.proofs.lemmas.Bool.{eqb-true}
 use Rattle.msrp_core.specs.Machine.{MachineModel}
 use Rattle.msrp_plan.specs.declared.rows.Row.{Row as TraceRow}

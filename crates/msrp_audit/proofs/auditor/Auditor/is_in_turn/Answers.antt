@@ -1,4 +1,5 @@
-use Rattle.msrp_plan.proofs.Common.{◌&&◌, refl, ap, sym, ◌∙◌, eq-eqb, not_equal}
+use Rattle.std.proofs.Common.{◌&&◌, ◌∙◌}
+use Rattle.msrp_plan.proofs.Common.{refl, ap, sym, eq-eqb, not_equal}
 use Rattle.msrp_audit.specs.Audits.{has_turn}
 use Rattle.msrp_audit.proofs.Judging.{in_turn_is, tick_is}
 use Rattle.msrp_audit.proofs.auditor.Auditor.is_in_turn.Goals as goal

@@ -1,4 +1,5 @@
-use Rattle.msrp_plan.proofs.Common.{◌≡◌, ◌*◌, ◌<◌, ◌++◌, ◌∷◌, [], List, Some, true, length, refl, ap, sym, ◌∙◌, subst, is_in_turn, refused}
+use Rattle.std.proofs.Common.{◌≡◌, ◌*◌, ◌<◌, ◌++◌, ◌∷◌, ◌∙◌}
+use Rattle.msrp_plan.proofs.Common.{[], List, Some, true, length, refl, ap, sym, subst, is_in_turn, refused}
 use Rattle.msrp_plan.specs.declared.rows.Row.{Row as TraceRow}
 use Rattle.msrp_sim.specs.Cores.{IsNextRow}
 use Rattle.msrp_audit.specs.Audits.{AuditorModel, HasFed, answer_of}

@@ -1,4 +1,5 @@
-use Rattle.msrp_plan.proofs.Common.{◌≡◌, List, Some, IfSome, sym, subst}
+use Rattle.std.proofs.Common.{◌≡◌}
+use Rattle.msrp_plan.proofs.Common.{List, Some, IfSome, sym, subst}
 use Rattle.msrp_plan.specs.declared.rows.Row.{Row as TraceRow}
 use Rattle.msrp_audit.specs.Audits.{AuditorModel, HasFed, IsDueInAudit, Awaits, auditor_view}
 use Rattle.msrp_sim.specs.Cores.{known_row}

@@ -1,4 +1,5 @@
-use Rattle.msrp_plan.proofs.Common.{◌≡◌, subst}
+use Rattle.std.proofs.Common.{◌≡◌}
+use Rattle.msrp_plan.proofs.Common.{subst}
 use Rattle.std.specs.Option.{is_some}
 use Rattle.msrp_audit.specs.Audits.{AuditorModel}
 use Rattle.msrp_sim.specs.Cores.{known_row}

@@ -1,4 +1,5 @@
-use Rattle.msrp_plan.proofs.Common.{◌≡◌, ◌-◌, length, min, take, rules, ap, ◌∙◌}
+use Rattle.std.proofs.Common.{◌≡◌, ◌-◌, ◌∙◌}
+use Rattle.msrp_plan.proofs.Common.{length, min, take, rules, ap}
 use Rattle.msrp_audit.specs.Inside.SmallRows.{rows_of}
 use Rattle.msrp_audit.proofs.SmallRows.{rows_first}
 use Rattle.msrp_audit.proofs.gathered.Gathered.first.Goals as goal

@@ -1,4 +1,5 @@
-use Rattle.msrp_plan.proofs.Common.{refl, sym, ◌<◌, subst}
+use Rattle.std.proofs.Common.{◌<◌}
+use Rattle.msrp_plan.proofs.Common.{refl, sym, subst}
 use Rattle.msrp_board.specs.declared.answers.SeatPhase.TheVariants.{Admitted}
 use Rattle.msrp_board.specs.declared.held.CoreState.{CoreState}
 use Rattle.msrp_board.specs.Inside.Rule.{page_with_arrival}

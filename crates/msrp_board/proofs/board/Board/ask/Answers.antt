@@ -1,4 +1,5 @@
-use Rattle.msrp_plan.proofs.Common.{◌<◌, sym, ap, ◌∙◌, subst}
+use Rattle.std.proofs.Common.{◌<◌, ◌∙◌}
+use Rattle.msrp_plan.proofs.Common.{sym, ap, subst}
 use Rattle.msrp_plan.specs.declared.units.Phase.TheVariants.{Free}
 use Rattle.msrp_board.specs.Seats.{BoardModel, SeatModel}
 use Rattle.msrp_board.proofs.Seats.{acting, free_claim, entered_held, entered_seen, entered_behind}

@@ -1,4 +1,5 @@
-use Rattle.msrp_plan.proofs.Common.{sym, ap, ◌∙◌, ◌≡◌}
+use Rattle.std.proofs.Common.{◌∙◌, ◌≡◌}
+use Rattle.msrp_plan.proofs.Common.{sym, ap}
 use Rattle.msrp_board.specs.Seats.{BoardModel, SeatModel}
 use Rattle.msrp_board.proofs.Moments.{stands}
 use Rattle.msrp_board.proofs.board.Board.confirm.Goals as goal

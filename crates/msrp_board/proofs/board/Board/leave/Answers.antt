@@ -1,4 +1,5 @@
-use Rattle.msrp_plan.proofs.Common.{◌+◌, ◌<◌, refl, sym, ap, ◌∙◌, ◌≡◌, subst}
+use Rattle.std.proofs.Common.{◌+◌, ◌<◌, ◌∙◌, ◌≡◌}
+use Rattle.msrp_plan.proofs.Common.{refl, sym, ap, subst}
 use Rattle.msrp_plan.specs.declared.ids.ResId.{ResId}
 use Rattle.msrp_plan.specs.declared.units.Call.TheVariants.{Leave}
 use Rattle.msrp_plan.specs.declared.units.Phase.TheVariants.{Holding}

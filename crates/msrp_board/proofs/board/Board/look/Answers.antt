@@ -1,4 +1,5 @@
-use Rattle.msrp_plan.proofs.Common.{ltb, leb, ◌+◌, ◌*◌, sym, ap, ◌∙◌, ◌≡◌, ◌<◌, subst}
+use Rattle.std.proofs.Common.{◌+◌, ◌*◌, ◌∙◌, ◌≡◌, ◌<◌}
+use Rattle.msrp_plan.proofs.Common.{ltb, leb, sym, ap, subst}
 use Rattle.msrp_board.specs.declared.answers.SeatPhase.TheVariants.{Waiting}
 use Rattle.msrp_board.specs.declared.books.BoardSize.{BoardSize}
 use Rattle.msrp_board.specs.declared.held.CoreState.{CoreState}

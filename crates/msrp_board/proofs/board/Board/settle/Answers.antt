@@ -1,4 +1,5 @@
-use Rattle.msrp_plan.proofs.Common.{arith, ◌≡◌, ◌∙◌, sym, ap}
+use Rattle.std.proofs.Common.{◌≡◌, ◌∙◌}
+use Rattle.msrp_plan.proofs.Common.{arith, sym, ap}
 use Rattle.msrp_board.specs.Seats.{BoardModel, SeatModel, book_at}
 use Rattle.msrp_board.specs.Inside.Held.{settled_as}
 use Rattle.msrp_board.proofs.End.{settles, not_stopped}

@@ -1,4 +1,5 @@
-use Rattle.msrp_plan.proofs.Common.{ap, sym, ◌∙◌}
+use Rattle.std.proofs.Common.{◌∙◌}
+use Rattle.msrp_plan.proofs.Common.{ap, sym}
 use Rattle.std.specs.Option.{is_some}
 use Rattle.msrp_board.specs.Seats.{SeatModel, book_at}
 use Rattle.msrp_board.proofs.Seats.{is_seat}

@@ -1,4 +1,5 @@
-use Rattle.msrp_plan.proofs.Common.{ap, ◌∙◌}
+use Rattle.std.proofs.Common.{◌∙◌}
+use Rattle.msrp_plan.proofs.Common.{ap}
 use Rattle.msrp_board.proofs.Told.{phase_shown}
 use Rattle.msrp_board.specs.Books.{phase_in}
 use Rattle.msrp_board.specs.Seats.{SeatModel}

@@ -1,4 +1,5 @@
-use Rattle.msrp_plan.proofs.Common.{◌==◌, ◌≡◌, ◌+◌, Some, replicate, if◌then◌else◌, sym, subst, arith}
+use Rattle.std.proofs.Common.{◌==◌, ◌≡◌, ◌+◌, if◌then◌else◌}
+use Rattle.msrp_plan.proofs.Common.{Some, replicate, sym, subst, arith}
 use Rattle.crossbeam_utils.specs.Padded.{padded_value}
 use Rattle.msrp_board.specs.declared.states.Kept.{Kept}
 use Rattle.msrp_board.specs.Inside.Held.{kept_of, state_at}

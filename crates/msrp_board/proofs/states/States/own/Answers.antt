@@ -1,4 +1,5 @@
-use Rattle.msrp_plan.proofs.Common.{ap, ◌∙◌, subst}
+use Rattle.std.proofs.Common.{◌∙◌}
+use Rattle.msrp_plan.proofs.Common.{ap, subst}
 use Rattle.crossbeam_utils.specs.Padded.{padded_value}
 use Rattle.msrp_board.specs.declared.states.Kept.{Kept}
 use Rattle.msrp_board.specs.Inside.Held.{state_of}

@@ -1,4 +1,5 @@
-use Rattle.msrp_plan.proofs.Common.{◌≡◌, ◌∙◌, ap, sym, true, true≢false, same_Some, PlanModel, is_global}
+use Rattle.std.proofs.Common.{◌≡◌, ◌∙◌}
+use Rattle.msrp_plan.proofs.Common.{ap, sym, true, true≢false, same_Some, PlanModel, is_global}
 use Rattle.msrp_plan.specs.declared.ids.ResId.{ResId}
 use Rattle.msrp_plan.specs.declared.units.Op.TheVariants.{Lock as LockUnit, Unlock as UnlockUnit}
 use Rattle.msrp_core.proofs.Steps.{request_phase}

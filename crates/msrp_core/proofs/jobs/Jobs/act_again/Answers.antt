@@ -1,4 +1,5 @@
-use Rattle.msrp_plan.proofs.Common.{◌≡◌, ◌+◌, length, vec_capacity, None, refl, ap, sym, subst, arith}
+use Rattle.std.proofs.Common.{◌≡◌, ◌+◌}
+use Rattle.msrp_plan.proofs.Common.{length, vec_capacity, None, refl, ap, sym, subst, arith}
 use Rattle.msrp_plan.specs.declared.rows.Kind.TheVariants.{Run}
 use Rattle.msrp_plan.specs.declared.units.Op.TheVariants.{Run as RunUnit}
 use Rattle.msrp_core.specs.CoreJobs.{ActsFor, IsCurrent}

@@ -1,4 +1,5 @@
-use Rattle.msrp_plan.proofs.Common.{◌≡◌, sym, subst}
+use Rattle.std.proofs.Common.{◌≡◌}
+use Rattle.msrp_plan.proofs.Common.{sym, subst}
 use Rattle.msrp_core.specs.Actions.{EachRowOf}
 use Rattle.msrp_core.specs.Ports.{IsQuiet}
 use Rattle.msrp_core.proofs.jobs.Jobs.action_of.Goals as goal

@@ -1,4 +1,5 @@
-use Rattle.msrp_plan.proofs.Common.{◌+◌, ◌≡◌, ap, arith, sym, ◌∙◌, length, units}
+use Rattle.std.proofs.Common.{◌+◌, ◌≡◌, ◌∙◌}
+use Rattle.msrp_plan.proofs.Common.{ap, arith, sym, length, units}
 use Rattle.msrp_core.proofs.Running.{advanced_on, finished_core, running_units}
 use Rattle.msrp_core.proofs.jobs.Jobs.advance.Goals as goal
 

@@ -1,4 +1,5 @@
-use Rattle.msrp_plan.proofs.Common.{Some, true, false, ◌≡◌, ◌∙◌, ap, arith, lt-ltb, le-ltb, PlanModel, level}
+use Rattle.std.proofs.Common.{◌≡◌, ◌∙◌}
+use Rattle.msrp_plan.proofs.Common.{Some, true, false, ap, arith, lt-ltb, le-ltb, PlanModel, level}
 use Rattle.msrp_ready.specs.Ready.{ReadyModel}
 use Rattle.msrp_stack.specs.Stack.{current_ceiling}
 use Rattle.msrp_core.proofs.Running.{choice_before, choose_risen, choose_unrisen, risen_known, states_before}

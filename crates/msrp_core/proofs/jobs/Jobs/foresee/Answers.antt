@@ -1,4 +1,5 @@
-use Rattle.msrp_plan.proofs.Common.{Some, nat_lt, sym, ◌∙◌, and_parts, level, comes_first}
+use Rattle.std.proofs.Common.{◌∙◌}
+use Rattle.msrp_plan.proofs.Common.{Some, nat_lt, sym, and_parts, level, comes_first}
 use Rattle.msrp_stack.specs.Stack.{current_ceiling}
 use Rattle.msrp_core.proofs.Running.{first_known, free_for, newest_known}
 use Rattle.msrp_core.proofs.Turning.{turn_row}

@@ -1,4 +1,5 @@
-use Rattle.msrp_plan.proofs.Common.{◌<◌, length, subst, sym, PlanModel, known_task}
+use Rattle.std.proofs.Common.{◌<◌}
+use Rattle.msrp_plan.proofs.Common.{length, subst, sym, PlanModel, known_task}
 use Rattle.msrp_core.proofs.jobs.Jobs.is_next.Goals as goal
 
 pub level-requires : goal.level-requires

@@ -1,4 +1,5 @@
-use Rattle.msrp_plan.proofs.Common.{◌≡◌, ◌∙◌, ap, sym, true, false, PlanModel, allows, is_global}
+use Rattle.std.proofs.Common.{◌≡◌, ◌∙◌}
+use Rattle.msrp_plan.proofs.Common.{ap, sym, true, false, PlanModel, allows, is_global}
 use Rattle.msrp_plan.specs.declared.rows.Kind.TheVariants.{Take, Grant, Lock}
 use Rattle.msrp_plan.specs.declared.units.Op.TheVariants.{Lock as LockUnit}
 use Rattle.msrp_core.specs.Active.{is_waiting_phase}

@@ -1,4 +1,5 @@
-use Rattle.msrp_plan.proofs.Common.{◌≡◌, ◌∙◌, Bool, ap, sym, refl, true, false, allows}
+use Rattle.std.proofs.Common.{◌≡◌, ◌∙◌}
+use Rattle.msrp_plan.proofs.Common.{Bool, ap, sym, refl, true, false, allows}
 use Rattle.msrp_plan.specs.declared.ids.ResId.{ResId}
 use Rattle.msrp_plan.specs.declared.rows.Kind.TheVariants.{Release, Unlock}
 use Rattle.msrp_plan.specs.declared.units.Op.TheVariants.{Unlock as UnlockUnit}

@@ -1,4 +1,5 @@
-use Rattle.msrp_plan.proofs.Common.{◌∙◌, ◌∷◌, ap, refl, Some, sym, allows}
+use Rattle.std.proofs.Common.{◌∙◌, ◌∷◌}
+use Rattle.msrp_plan.proofs.Common.{ap, refl, Some, sym, allows}
 use Rattle.msrp_plan.specs.declared.rows.Kind.TheVariants.{Lock}
 use Rattle.msrp_plan.specs.declared.units.Op.TheVariants.{Lock as LockUnit}
 use Rattle.msrp_core.specs.Active.{is_waiting_phase}

@@ -1,4 +1,5 @@
-use Rattle.msrp_plan.proofs.Common.{◌≤◌, sym, ◌∙◌, arith, inl, inr, true≢false, cases_lt, release}
+use Rattle.std.proofs.Common.{◌≤◌, ◌∙◌}
+use Rattle.msrp_plan.proofs.Common.{sym, arith, inl, inr, true≢false, cases_lt, release}
 use Rattle.msrp_core.proofs.Repeating.{released_then}
 use Rattle.msrp_core.proofs.jobs.Jobs.quiet_until.Goals as goal
 

@@ -1,4 +1,5 @@
-use Rattle.msrp_plan.proofs.Common.{sym, ◌∙◌, known_task}
+use Rattle.std.proofs.Common.{◌∙◌}
+use Rattle.msrp_plan.proofs.Common.{sym, known_task}
 use Rattle.msrp_core.proofs.Running.{newest_of_core}
 use Rattle.msrp_core.proofs.jobs.Jobs.refresh.Goals as goal
 

@@ -1,4 +1,5 @@
-use Rattle.msrp_plan.proofs.Common.{refl, sym, ◌∙◌}
+use Rattle.std.proofs.Common.{◌∙◌}
+use Rattle.msrp_plan.proofs.Common.{refl, sym}
 use Rattle.msrp_core.proofs.Running.{core_before, released_fits, rising_stays}
 use Rattle.msrp_core.proofs.jobs.Jobs.release_to.Goals as goal
 

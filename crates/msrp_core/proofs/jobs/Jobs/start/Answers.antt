@@ -1,4 +1,5 @@
-use Rattle.msrp_plan.proofs.Common.{◌||◌, [], nat_lt, refl, ap, ◌∙◌, arith, and_parts, level, is_job, comes_first, known_task}
+use Rattle.std.proofs.Common.{◌||◌, ◌∙◌}
+use Rattle.msrp_plan.proofs.Common.{[], nat_lt, refl, ap, arith, and_parts, level, is_job, comes_first, known_task}
 use Rattle.msrp_ready.specs.Ready.{is_among}
 use Rattle.msrp_stack.specs.Stack.{current_ceiling, newest}
 use Rattle.msrp_core.specs.Active.{state_in}

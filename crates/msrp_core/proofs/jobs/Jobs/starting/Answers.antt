@@ -1,4 +1,5 @@
-use Rattle.msrp_plan.proofs.Common.{true, false, sym, ◌∙◌}
+use Rattle.std.proofs.Common.{◌∙◌}
+use Rattle.msrp_plan.proofs.Common.{true, false, sym}
 use Rattle.msrp_core.proofs.Running.{choose_head, choose_none}
 use Rattle.msrp_core.proofs.jobs.Jobs.starting.Goals as goal
 

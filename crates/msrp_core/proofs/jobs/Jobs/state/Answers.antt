@@ -1,4 +1,5 @@
-use Rattle.msrp_plan.proofs.Common.{sym, ◌∙◌, none-some}
+use Rattle.std.proofs.Common.{◌∙◌}
+use Rattle.msrp_plan.proofs.Common.{sym, none-some}
 use Rattle.msrp_core.proofs.Running.{running_done, running_known, running_of, state_told}
 use Rattle.msrp_core.proofs.jobs.Jobs.state.Goals as goal
 

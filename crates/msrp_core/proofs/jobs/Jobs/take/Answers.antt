@@ -1,4 +1,5 @@
-use Rattle.msrp_plan.proofs.Common.{◌∷◌, ◌∙◌, ap, refl, Some, true, sym, allows}
+use Rattle.std.proofs.Common.{◌∷◌, ◌∙◌}
+use Rattle.msrp_plan.proofs.Common.{ap, refl, Some, true, sym, allows}
 use Rattle.msrp_plan.specs.declared.rows.Kind.TheVariants.{Take}
 use Rattle.msrp_plan.specs.declared.units.Phase.TheVariants.{Holding}
 use Rattle.msrp_plan.specs.declared.units.Op.TheVariants.{Lock as LockUnit}

@@ -1,4 +1,5 @@
-use Rattle.msrp_plan.proofs.Common.{◌∙◌, refl, None, ap, sym}
+use Rattle.std.proofs.Common.{◌∙◌}
+use Rattle.msrp_plan.proofs.Common.{refl, None, ap, sym}
 use Rattle.msrp_plan.specs.declared.rows.Kind.TheVariants.{Run}
 use Rattle.msrp_plan.specs.declared.units.Op.TheVariants.{Run as RunUnit}
 use Rattle.msrp_core.specs.declared.jobs.Jobs.{Jobs}

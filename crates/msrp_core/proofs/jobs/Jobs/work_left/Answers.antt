@@ -1,4 +1,5 @@
-use Rattle.msrp_plan.proofs.Common.{ap, sym, ◌∙◌, arith, length, slice_get, units}
+use Rattle.std.proofs.Common.{◌∙◌}
+use Rattle.msrp_plan.proofs.Common.{ap, sym, arith, length, slice_get, units}
 use Rattle.msrp_core.proofs.Running.{running_left, running_units}
 use Rattle.msrp_core.proofs.jobs.Jobs.work_left.Goals as goal
 

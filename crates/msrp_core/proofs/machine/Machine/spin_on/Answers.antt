@@ -1,4 +1,5 @@
-use Rattle.msrp_plan.proofs.Common.{◌+◌, ◌++◌, ◌∷◌, [], ◌≡◌, Some, ap, sym, ◌∙◌, subst, none-some, same_Some, IsCoreTurn}
+use Rattle.std.proofs.Common.{◌+◌, ◌++◌, ◌∷◌, ◌≡◌, ◌∙◌}
+use Rattle.msrp_plan.proofs.Common.{[], Some, ap, sym, subst, none-some, same_Some, IsCoreTurn}
 use Rattle.msrp_plan.specs.declared.ids.CoreId.{CoreId}
 use Rattle.msrp_core.specs.Machine.{IsRefused, MachineModel, StandsAfter}
 use Rattle.msrp_core.specs.MachineView.{machine_view}

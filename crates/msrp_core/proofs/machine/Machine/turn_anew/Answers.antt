@@ -1,4 +1,5 @@
-use Rattle.msrp_plan.proofs.Common.{◌+◌, ◌++◌, ◌∷◌, [], ◌≡◌, sym, ap, subst, ◌∙◌, arith, refl, same_Some, jobs_on, IsCoreTurn, state_after}
+use Rattle.std.proofs.Common.{◌+◌, ◌++◌, ◌∷◌, ◌≡◌, ◌∙◌}
+use Rattle.msrp_plan.proofs.Common.{[], sym, ap, subst, arith, refl, same_Some, jobs_on, IsCoreTurn, state_after}
 use Rattle.msrp_ready.specs.Ready.{ReadyModel}
 use Rattle.msrp_core.specs.CoreJobs.{state_of}
 use Rattle.msrp_core.specs.Machine.{StandsAfter, MachineModel}

@@ -1,4 +1,5 @@
-use Rattle.msrp_plan.proofs.Common.{◌≡◌, [], map, refl, sym, subst, arith, rules, jobs_on, state_after}
+use Rattle.std.proofs.Common.{◌≡◌}
+use Rattle.msrp_plan.proofs.Common.{[], map, refl, sym, subst, arith, rules, jobs_on, state_after}
 use Rattle.msrp_ready.specs.Ready.{ReadyModel}
 use Rattle.msrp_core.specs.Active.{state_in}
 use Rattle.msrp_core.specs.CoreJobs.{active_in}

@@ -1,4 +1,5 @@
-use Rattle.msrp_plan.proofs.Common.{ap, sym, ◌∙◌, subst}
+use Rattle.std.proofs.Common.{◌∙◌}
+use Rattle.msrp_plan.proofs.Common.{ap, sym, subst}
 use Rattle.msrp_trace.specs.Texts.{TextsModel, text_of_core}
 use Rattle.msrp_engine.specs.Inside.Kept.{IsKept, KeepsTexts}
 use Rattle.msrp_engine.proofs.KeptTexts.{shown_keeps, shown_own, told_named, turn_told}

@@ -1,4 +1,5 @@
-use Rattle.msrp_plan.proofs.Common.{◌++◌, ◌∷◌, [], ap, ◌∙◌, PlanModel, fault_in}
+use Rattle.std.proofs.Common.{◌++◌, ◌∷◌, ◌∙◌}
+use Rattle.msrp_plan.proofs.Common.{[], ap, PlanModel, fault_in}
 use Rattle.msrp_engine.proofs.Judging.{good-answer}
 use Rattle.msrp_engine.proofs.KeptTexts.{keeps_same}
 use Rattle.msrp_engine.proofs.judged.JudgedRows.judge.Goals as goal

@@ -1,4 +1,5 @@
-use Rattle.msrp_plan.proofs.Common.{◌≡◌, false, sym, ◌∙◌, subst}
+use Rattle.std.proofs.Common.{◌≡◌, ◌∙◌}
+use Rattle.msrp_plan.proofs.Common.{false, sym, subst}
 use Rattle.msrp_audit.specs.Audits.{IsOutOfTurn}
 use Rattle.msrp_engine.specs.Inside.Kept.{KeepsTexts}
 use Rattle.msrp_engine.proofs.judged.JudgedRows.read.Goals as goal

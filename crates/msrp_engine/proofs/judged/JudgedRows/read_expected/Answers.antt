@@ -1,4 +1,5 @@
-use Rattle.msrp_plan.proofs.Common.{Ok, ap, sym, ◌∙◌, subst, eqb-false}
+use Rattle.std.proofs.Common.{◌∙◌}
+use Rattle.msrp_plan.proofs.Common.{Ok, ap, sym, subst, eqb-false}
 use Rattle.msrp_plan.specs.declared.ids.CoreId.{CoreId}
 use Rattle.msrp_engine.specs.Inside.Kept.{KeepsTexts}
 use Rattle.msrp_engine.proofs.NextRows.{given-at, given-some}

@@ -1,4 +1,5 @@
-use Rattle.msrp_plan.proofs.Common.{◌≡◌, ◌∙◌, sym, subst, arith, Wrote}
+use Rattle.std.proofs.Common.{◌≡◌, ◌∙◌}
+use Rattle.msrp_plan.proofs.Common.{sym, subst, arith, Wrote}
 use Rattle.msrp_export.specs.Exports.{TellsTick}
 use Rattle.msrp_export.proofs.Exporting.{are_over, none_begun, partial_tick, some_begun}
 use Rattle.msrp_export.proofs.Ticks.{AreOver, begun_none, begun_some, tick_fits}

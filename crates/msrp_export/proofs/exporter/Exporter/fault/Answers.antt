@@ -1,4 +1,5 @@
-use Rattle.msrp_plan.proofs.Common.{◌≡◌, ◌+◌, ◌∙◌, ap, sym, subst, arith, Wrote, PlanModel, wrote-more}
+use Rattle.std.proofs.Common.{◌≡◌, ◌+◌, ◌∙◌}
+use Rattle.msrp_plan.proofs.Common.{ap, sym, subst, arith, Wrote, PlanModel, wrote-more}
 use Rattle.msrp_export.specs.Changes.{broken_text, ends_text, fault_text}
 use Rattle.msrp_export.specs.Exports.{TellsTick}
 use Rattle.msrp_export.specs.Ticks.{begun, over}

@@ -1,4 +1,5 @@
-use Rattle.msrp_plan.proofs.Common.{◌≡◌, ◌≢◌, ◌+◌, ◌++◌, ◌∷◌, [], ◌∙◌, refl, sym, subst, arith, Wrote, wrote-nothing}
+use Rattle.std.proofs.Common.{◌≡◌, ◌≢◌, ◌+◌, ◌++◌, ◌∷◌, ◌∙◌}
+use Rattle.msrp_plan.proofs.Common.{[], refl, sym, subst, arith, Wrote, wrote-nothing}
 use Rattle.msrp_export.specs.declared.recent.Recent.{Recent}
 use Rattle.msrp_export.proofs.Exporting.{are_over, ended, ends_text, goes_text, tick_push, told_rows, went}
 use Rattle.msrp_export.proofs.Ticks.{tick_fits}

@@ -1,4 +1,5 @@
-use Rattle.msrp_plan.proofs.Common.{rules, ◌∙◌, ap, arith, is_on, not_equal}
+use Rattle.std.proofs.Common.{◌∙◌}
+use Rattle.msrp_plan.proofs.Common.{rules, ap, arith, is_on, not_equal}
 use Rattle.msrp_export.proofs.Counts.{other_res, set_res}
 use Rattle.msrp_export.proofs.standing.Standing.take_use.Goals as goal
 

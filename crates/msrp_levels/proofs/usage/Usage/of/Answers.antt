@@ -1,4 +1,5 @@
-use Rattle.msrp_plan.proofs.Common.{◌≡◌, ◌<◌, ◌+◌, ◌++◌, ◌∷◌, [], ℕ, Bool, List, max, length, map, take, refl, set, get_or, true, false, vec_len, rules, ap, sym, ◌∙◌, subst, arith, range_with_len, vec_capacity, get_or-map, length-map, length_push, length-map-range_with_len, PlanModel, no_task, task_at, uses, longest_section, IsPlan}
+use Rattle.std.proofs.Common.{◌≡◌, ◌<◌, ◌+◌, ◌++◌, ◌∷◌, ◌∙◌}
+use Rattle.msrp_plan.proofs.Common.{[], ℕ, Bool, List, max, length, map, take, refl, set, get_or, true, false, vec_len, rules, ap, sym, subst, arith, range_with_len, vec_capacity, get_or-map, length-map, length_push, length-map-range_with_len, PlanModel, no_task, task_at, uses, longest_section, IsPlan}
 use Rattle.msrp_plan.specs.declared.ids.TaskId.{TaskId}
 use Rattle.msrp_levels.specs.Usage.{spin_among, with_user, IsShort}
 use Rattle.msrp_levels.specs.Footprints.{footprint_of, locks_in, longest_in}

@@ -1,4 +1,5 @@
-use Rattle.msrp_plan.proofs.Common.{◌≡◌, ◌≤◌, length, vec_capacity}
+use Rattle.std.proofs.Common.{◌≡◌, ◌≤◌}
+use Rattle.msrp_plan.proofs.Common.{length, vec_capacity}
 use Rattle.msrp_levels.proofs.FirstTasks.{AreTold}
 use Rattle.msrp_levels.proofs.usage.Usage.of.Given as goal
 

@@ -1,5 +1,5 @@
-use Rattle.msrp_plan.specs.Common.{◌≡◌, length, flat_map, range_with_len, jobs_of}
-use Rattle.std.proofs.Common.{◌∙◌, refl, ap, arith}
+use Rattle.msrp_plan.specs.Common.{length, flat_map, range_with_len, jobs_of}
+use Rattle.std.proofs.Common.{◌≡◌, ◌∙◌, refl, ap, arith}
 use Rattle.std.proofs.lemmas.List.{length-append, length-map}
 use Rattle.msrp_plan.specs.Inside.Tasks.{task_view}
 use Rattle.msrp_plan.specs.Inside.Views.{draft_view}

@@ -1,4 +1,5 @@
-use Rattle.msrp_plan.specs.Common.{◌≡◌, ◌≤◌, ◌*◌, length, flat_map, range_with_len, jobs_of}
+use Rattle.std.proofs.Common.{◌≡◌, ◌≤◌, ◌*◌}
+use Rattle.msrp_plan.specs.Common.{length, flat_map, range_with_len, jobs_of}
 use Rattle.msrp_plan.proofs.builder.PlanBuilder.all_jobs.Given as goal
 
 abbrev pub invariant-loop-task : goal.invariant-loop-task

@@ -1,5 +1,5 @@
-use Rattle.msrp_plan.specs.Common.{◌≡◌, ◌++◌, ◌∷◌, [], map, None, task_fault, new_task}
-use Rattle.std.proofs.Common.{sym, ◌∙◌, refl}
+use Rattle.msrp_plan.specs.Common.{[], map, None, task_fault, new_task}
+use Rattle.std.proofs.Common.{◌≡◌, ◌++◌, ◌∷◌, sym, ◌∙◌, refl}
 use Rattle.msrp_plan.specs.Inside.Tasks.{task_view, times_view}
 use Rattle.msrp_plan.specs.Inside.Views.{draft_view}
 use Rattle.msrp_plan.proofs.Building.Drafts.{growing_task, task_new}

@@ -1,5 +1,5 @@
-use Rattle.msrp_plan.specs.Common.{◌≡◌, get_or, is_global}
-use Rattle.std.proofs.Common.{◌∙◌, refl, arith}
+use Rattle.msrp_plan.specs.Common.{get_or, is_global}
+use Rattle.std.proofs.Common.{◌≡◌, ◌∙◌, refl, arith}
 use Rattle.msrp_plan.specs.Inside.Views.{draft_view}
 use Rattle.msrp_plan.specs.declared.users.Users.TheVariants.{Nobody}
 use Rattle.msrp_plan.proofs.Levels.CoreUsers.{global_noted}

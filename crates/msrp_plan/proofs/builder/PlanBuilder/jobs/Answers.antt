@@ -1,5 +1,5 @@
-use Rattle.msrp_plan.specs.Common.{◌≡◌, ◌≤◌, ℕ, nat_lt, length, TaskModel, task_at, jobs_of, AreTimes}
-use Rattle.std.proofs.Common.{◌∙◌, ap, sym, subst, arith}
+use Rattle.msrp_plan.specs.Common.{ℕ, nat_lt, length, TaskModel, task_at, jobs_of, AreTimes}
+use Rattle.std.proofs.Common.{◌≡◌, ◌≤◌, ◌∙◌, ap, sym, subst, arith}
 use Rattle.msrp_plan.specs.Inside.Tasks.{comes_before}
 use Rattle.msrp_plan.specs.Inside.Views.{draft_view}
 use Rattle.msrp_plan.proofs.Building.Stored.{view_at}

@@ -1,5 +1,5 @@
-use Rattle.msrp_plan.specs.Common.{◌≡◌, ◌+◌, ◌&&◌, TaskModel, task_at}
-use Rattle.std.proofs.Common.{refl, ap, sym, subst, ◌∙◌, arith}
+use Rattle.msrp_plan.specs.Common.{TaskModel, task_at}
+use Rattle.std.proofs.Common.{◌≡◌, ◌+◌, ◌&&◌, refl, ap, sym, subst, ◌∙◌, arith}
 use Rattle.std.proofs.lemmas.Option.{get_or_from_slice_get, slice_get_within}
 use Rattle.msrp_plan.specs.Inside.Marks.{holds_one_after, locks_one}
 use Rattle.msrp_plan.specs.Inside.Views.{draft_view}

@@ -1,4 +1,5 @@
-use Rattle.msrp_plan.specs.Common.{◌≡◌, false, take, list_any, nests_global}
+use Rattle.std.proofs.Common.{◌≡◌}
+use Rattle.msrp_plan.specs.Common.{false, take, list_any, nests_global}
 use Rattle.msrp_plan.proofs.builder.PlanBuilder.nests_globals.Given as goal
 
 abbrev pub invariant-loop-task : goal.invariant-loop-task

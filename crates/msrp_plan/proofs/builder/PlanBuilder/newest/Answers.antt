@@ -1,5 +1,5 @@
-use Rattle.msrp_plan.specs.Common.{◌-◌, length}
-use Rattle.std.proofs.Common.{refl}
+use Rattle.msrp_plan.specs.Common.{length}
+use Rattle.std.proofs.Common.{◌-◌, refl}
 use Rattle.std.proofs.lemmas.List.{length-map}
 use Rattle.msrp_plan.specs.Inside.Tasks.{task_view}
 use Rattle.msrp_plan.proofs.Building.Stored.{view_at}

@@ -1,5 +1,5 @@
-use Rattle.msrp_plan.specs.Common.{◌≡◌, ℕ, List, None, TaskModel, release_fault, listed_ticks}
-use Rattle.std.proofs.Common.{sym, ap, ◌∙◌}
+use Rattle.msrp_plan.specs.Common.{ℕ, List, None, TaskModel, release_fault, listed_ticks}
+use Rattle.std.proofs.Common.{◌≡◌, sym, ap, ◌∙◌}
 use Rattle.msrp_plan.specs.Building.{tick_fault}
 use Rattle.msrp_plan.specs.Inside.Views.{draft_view, numbers}
 use Rattle.msrp_plan.proofs.Building.Drafts.{growing_release, takes_some}

@@ -1,5 +1,5 @@
-use Rattle.msrp_plan.specs.Common.{◌≡◌, ◌++◌, ◌∷◌, [], ℕ, List, map, None, false, string_bytes, has_name, resource_fault}
-use Rattle.std.proofs.Common.{refl, sym, ap, ◌∙◌}
+use Rattle.msrp_plan.specs.Common.{[], ℕ, List, map, None, false, string_bytes, has_name, resource_fault}
+use Rattle.std.proofs.Common.{◌≡◌, ◌++◌, ◌∷◌, refl, sym, ap, ◌∙◌}
 use Rattle.msrp_plan.specs.Inside.Views.{draft_view}
 use Rattle.msrp_plan.proofs.Building.Stored.{name_push}
 use Rattle.msrp_plan.proofs.Building.Drafts.{growing_resource, resource_new}

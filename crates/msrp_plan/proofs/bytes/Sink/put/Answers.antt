@@ -1,5 +1,5 @@
-use Rattle.msrp_plan.specs.Common.{◌≤◌, ◌+◌, ◌-◌, length}
-use Rattle.std.proofs.Common.{◌∙◌, arith, rules}
+use Rattle.msrp_plan.specs.Common.{length}
+use Rattle.std.proofs.Common.{◌≤◌, ◌+◌, ◌-◌, ◌∙◌, arith, rules}
 use Rattle.std.proofs.KnownBytes.{Appends-nil}
 use Rattle.msrp_plan.proofs.Writes.{appends-part, appends-next, appends-whole, rest-fits, take-rest}
 use Rattle.msrp_plan.proofs.bytes.Sink.put.Goals as goal

@@ -1,4 +1,5 @@
-use Rattle.msrp_plan.specs.Common.{length, ◌-◌, ◌≡◌, ◌≤◌, false, take, sink_failed}
+use Rattle.std.proofs.Common.{◌-◌, ◌≡◌, ◌≤◌}
+use Rattle.msrp_plan.specs.Common.{length, false, take, sink_failed}
 use Rattle.std.specs.Io.KnownBytes.{Appends}
 use Rattle.msrp_plan.specs.Bytes.{sink_inner}
 use Rattle.msrp_plan.proofs.bytes.Sink.put.Given as goal

@@ -1,5 +1,5 @@
-use Rattle.msrp_plan.specs.Common.{◌≤◌, [], ◌∷◌, Contains, jobs, IsWait}
-use Rattle.std.proofs.Common.{refl, arith}
+use Rattle.msrp_plan.specs.Common.{[], Contains, jobs, IsWait}
+use Rattle.std.proofs.Common.{◌≤◌, ◌∷◌, refl, arith}
 use Rattle.msrp_plan.specs.Laws.{BoundedOvertaking, BoundedSpinning, ShortQueues}
 use Rattle.msrp_plan.specs.Blocking.{BoundedBlocking, BoundedSections}
 use Rattle.msrp_plan.specs.Examples.Notation.{job, take, queue, spin}

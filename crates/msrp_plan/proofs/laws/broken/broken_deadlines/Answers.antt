@@ -1,6 +1,6 @@
-use Rattle.msrp_plan.specs.Common.{◌≡◌, ◌≢◌, ◌≤◌, ◌<◌, true, false, take, Contains, is_before, jobs_on}
+use Rattle.msrp_plan.specs.Common.{true, false, take, Contains, is_before, jobs_on}
 use Rattle.msrp_plan.specs.declared.ids.JobId.{JobId}
-use Rattle.std.proofs.Common.{refl, sym, ap, arith}
+use Rattle.std.proofs.Common.{◌≡◌, ◌≢◌, ◌≤◌, ◌<◌, refl, sym, ap, arith}
 use Rattle.std.proofs.Math.Bool.{true≢false}
 use Rattle.std.proofs.lemmas.List.Elements.{All-from_recursion, All-contains}
 use Rattle.msrp_plan.specs.Scheduling.{EarliestDeadlineFirst}

@@ -1,7 +1,7 @@
-use Rattle.msrp_plan.specs.Common.{◌≡◌, ◌≤◌, true, false, ◌&&◌, ◌==◌, Some, None, [], take, ℕ, Contains, units, release, jobs, jobs_on, is_row_of, is_finished, is_amid, section_of}
+use Rattle.msrp_plan.specs.Common.{true, false, Some, None, [], take, ℕ, Contains, units, release, jobs, jobs_on, is_row_of, is_finished, is_amid, section_of}
 use Rattle.msrp_plan.specs.declared.ids.JobId.{JobId}
 use Rattle.msrp_plan.specs.declared.rows.Kind.TheVariants.{Idle, Run}
-use Rattle.std.proofs.Common.{refl, sym, ◌∙◌, arith}
+use Rattle.std.proofs.Common.{◌≡◌, ◌≤◌, ◌&&◌, ◌==◌, refl, sym, ◌∙◌, arith}
 use Rattle.std.proofs.Math.Bool.{true≢false}
 use Rattle.std.proofs.lemmas.Bool.{and_parts}
 use Rattle.std.proofs.lemmas.List.Elements.{All-from_recursion, All-contains}

@@ -1,5 +1,5 @@
-use Rattle.msrp_plan.specs.Common.{◌≡◌, true, false, [], ◌∷◌, ◌++◌, IsCoreTurn, CoreRun}
-use Rattle.std.proofs.Common.{refl, sym}
+use Rattle.msrp_plan.specs.Common.{true, false, [], IsCoreTurn, CoreRun}
+use Rattle.std.proofs.Common.{◌≡◌, ◌∷◌, ◌++◌, refl, sym}
 use Rattle.std.proofs.Math.Bool.{true≢false}
 use Rattle.msrp_plan.specs.Examples.Notation.{run}
 use Rattle.msrp_plan.specs.Examples.StretchEnds.{plan, lo, queued_at_work, to_the_end}

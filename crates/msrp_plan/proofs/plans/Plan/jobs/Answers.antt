@@ -1,5 +1,5 @@
-use Rattle.msrp_plan.specs.Common.{◌≡◌, ◌<◌, ℕ, nat_lt, length, map, range_with_len, IsSomeAnd, PlanModel, TaskModel, task_at, release_tick, job_at, jobs_of}
-use Rattle.std.proofs.Common.{ap, sym, subst, ◌∙◌}
+use Rattle.msrp_plan.specs.Common.{ℕ, nat_lt, length, map, range_with_len, IsSomeAnd, PlanModel, TaskModel, task_at, release_tick, job_at, jobs_of}
+use Rattle.std.proofs.Common.{◌≡◌, ◌<◌, ap, sym, subst, ◌∙◌}
 use Rattle.std.proofs.lemmas.Bool.{lt-ltb}
 use Rattle.msrp_plan.specs.Inside.Tasks.{comes_before}
 use Rattle.msrp_plan.proofs.Jobs.Releases.{before_is, first_jobs, job_count}

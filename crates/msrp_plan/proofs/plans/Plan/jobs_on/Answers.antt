@@ -1,5 +1,5 @@
-use Rattle.msrp_plan.specs.Common.{◌≡◌, ◌==◌, [], cond, length, range_with_len, jobs_of, task_at}
-use Rattle.std.proofs.Common.{length-append, ap, sym, ◌∙◌, arith}
+use Rattle.msrp_plan.specs.Common.{[], cond, length, range_with_len, jobs_of, task_at}
+use Rattle.std.proofs.Common.{◌≡◌, ◌==◌, length-append, ap, sym, ◌∙◌, arith}
 use Rattle.msrp_plan.proofs.Jobs.JobLists.{jobs_among, jobs_among_more}
 use Rattle.msrp_plan.proofs.plans.Plan.jobs_on.Goals as goal
 use Rattle.msrp_plan.proofs.plans.Plan.jobs_on.Goals.{then-eq, else-eq}

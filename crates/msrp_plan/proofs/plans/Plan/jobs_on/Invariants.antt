@@ -1,4 +1,5 @@
-use Rattle.msrp_plan.specs.Common.{◌≡◌, ◌≤◌, ◌*◌, ◌^◌, length, range_with_len}
+use Rattle.std.proofs.Common.{◌≡◌, ◌≤◌, ◌*◌, ◌^◌}
+use Rattle.msrp_plan.specs.Common.{length, range_with_len}
 use Rattle.msrp_plan.proofs.Jobs.JobLists.{jobs_among}
 use Rattle.msrp_plan.proofs.plans.Plan.jobs_on.Given as goal
 

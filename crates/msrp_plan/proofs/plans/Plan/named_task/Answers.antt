@@ -1,5 +1,5 @@
-use Rattle.msrp_plan.specs.Common.{◌≡◌, slice_index_or, PlanModel, task_at}
-use Rattle.std.proofs.Common.{sym, ◌∙◌, subst, ap}
+use Rattle.msrp_plan.specs.Common.{slice_index_or, PlanModel, task_at}
+use Rattle.std.proofs.Common.{◌≡◌, sym, ◌∙◌, subst, ap}
 use Rattle.msrp_plan.specs.Inside.Tasks.{task_view}
 use Rattle.msrp_plan.proofs.Building.Stored.{task_in}
 use Rattle.msrp_plan.proofs.plans.Plan.named_task.Goals as goal

@@ -1,6 +1,6 @@
-use Rattle.msrp_plan.specs.Common.{◌≡◌, ℕ, ◌-◌, ◌^◌, ◌<◌, List, drop, length, min, take, is_release_of}
+use Rattle.msrp_plan.specs.Common.{ℕ, List, drop, length, min, take, is_release_of}
 use Rattle.msrp_plan.specs.declared.ids.JobId.{JobId}
-use Rattle.std.proofs.Common.{ap, arith, length-drop, sym, ◌∙◌}
+use Rattle.std.proofs.Common.{◌≡◌, ◌-◌, ◌^◌, ◌<◌, ap, arith, length-drop, sym, ◌∙◌}
 use Rattle.std.specs.List.{count_by}
 use Rattle.std.proofs.lemmas.List.{drop_min, take_all}
 use Rattle.msrp_plan.proofs.requests.Requests.queue.Goals as goal

@@ -1,6 +1,6 @@
-use Rattle.msrp_plan.specs.Common.{◌≡◌, ℕ, ◌+◌, ◌-◌, ◌^◌, ◌++◌, ◌∷◌, [], List, cond, min, cons_option, is_release_of, requester}
+use Rattle.msrp_plan.specs.Common.{ℕ, [], List, cond, min, cons_option, is_release_of, requester}
 use Rattle.msrp_plan.specs.declared.rows.Row.{Row}
-use Rattle.std.proofs.Common.{ap, arith, sym, ◌∙◌}
+use Rattle.std.proofs.Common.{◌≡◌, ◌+◌, ◌-◌, ◌^◌, ◌++◌, ◌∷◌, ap, arith, sym, ◌∙◌}
 use Rattle.std.proofs.lemmas.List.Elements.{filter_map-append}
 use Rattle.std.proofs.lemmas.List.Sums.{sum_by_push}
 use Rattle.msrp_plan.specs.Requests.{HasTaken}

@@ -1,5 +1,5 @@
-use Rattle.msrp_plan.specs.Common.{◌≡◌, ℕ, List, length, Some, jobs, IsPlan}
-use Rattle.std.proofs.Common.{refl, ap, arith}
+use Rattle.msrp_plan.specs.Common.{ℕ, List, length, Some, jobs, IsPlan}
+use Rattle.std.proofs.Common.{◌≡◌, refl, ap, arith}
 use Rattle.msrp_plan.specs.Examples.PastLimits.{nine_cores, nine_held, no_unit, jobs_8193}
 use Rattle.msrp_plan.proofs.worked.corners.past_limits.Goals as goal
 

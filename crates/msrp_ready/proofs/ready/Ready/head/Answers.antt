@@ -1,4 +1,5 @@
-use Rattle.msrp_plan.proofs.Common.{Some, sym, ap, ◌∙◌}
+use Rattle.std.proofs.Common.{◌∙◌}
+use Rattle.msrp_plan.proofs.Common.{Some, sym, ap}
 use Rattle.msrp_ready.specs.Keyed.{entry_keys}
 use Rattle.msrp_ready.specs.Ready.{head}
 use Rattle.msrp_ready.proofs.Standing.{head_none, head_some}

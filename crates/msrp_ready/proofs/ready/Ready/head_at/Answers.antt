@@ -1,4 +1,5 @@
-use Rattle.msrp_plan.proofs.Common.{sym, ◌∙◌}
+use Rattle.std.proofs.Common.{◌∙◌}
+use Rattle.msrp_plan.proofs.Common.{sym}
 use Rattle.msrp_ready.proofs.Releases.{head_stays}
 use Rattle.msrp_ready.proofs.ready.Ready.head_at.Goals as goal
 

@@ -1,4 +1,5 @@
-use Rattle.msrp_plan.proofs.Common.{Some, None, ◌<◌, ◌-◌, length, drop, subst, ap, sym, ◌∙◌, All}
+use Rattle.std.proofs.Common.{◌<◌, ◌-◌, ◌∙◌}
+use Rattle.msrp_plan.proofs.Common.{Some, None, length, drop, subst, ap, sym, All}
 use Rattle.std.proofs.lemmas.List.Elements.{All-take, All-drop}
 use Rattle.msrp_ready.specs.declared.keyed.Entry.{Entry}
 use Rattle.msrp_ready.specs.Ready.{ReadyModel, head}

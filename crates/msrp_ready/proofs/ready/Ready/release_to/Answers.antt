@@ -1,4 +1,5 @@
-use Rattle.msrp_plan.proofs.Common.{Some, List, ◌<◌, length, subst, sym, ap, ◌∙◌, arith, All}
+use Rattle.std.proofs.Common.{◌<◌, ◌∙◌}
+use Rattle.msrp_plan.proofs.Common.{Some, List, length, subst, sym, ap, arith, All}
 use Rattle.msrp_plan.specs.declared.ids.JobId.{JobId}
 use Rattle.msrp_ready.specs.Keyed.{entry_keys}
 use Rattle.msrp_ready.specs.declared.keyed.Entry.{Entry}

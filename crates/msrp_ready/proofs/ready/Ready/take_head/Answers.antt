@@ -1,4 +1,5 @@
-use Rattle.msrp_plan.proofs.Common.{Some, ◌∷◌, ◌||◌, length, refl, sym, ap, ◌∙◌, arith, IsPermutation-sym, Contains-permutation, same_job}
+use Rattle.std.proofs.Common.{◌∷◌, ◌||◌, ◌∙◌}
+use Rattle.msrp_plan.proofs.Common.{Some, length, refl, sym, ap, arith, IsPermutation-sym, Contains-permutation, same_job}
 use Rattle.msrp_ready.specs.Keyed.{entry_keys, job_of}
 use Rattle.msrp_ready.specs.Ready.{head, is_among, ReadyModel}
 use Rattle.msrp_ready.proofs.Standing.{head_none, head_some}

@@ -1,4 +1,5 @@
-use Rattle.msrp_plan.proofs.Common.{ap, subst, ◌∙◌}
+use Rattle.std.proofs.Common.{◌∙◌}
+use Rattle.msrp_plan.proofs.Common.{ap, subst}
 use Rattle.msrp_ready.specs.Heap.{HeapModel}
 use Rattle.msrp_ready.specs.ReadyView.{IsComing}
 use Rattle.msrp_ready.proofs.Moving.{nothing_released}

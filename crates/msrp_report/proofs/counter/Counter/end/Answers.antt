@@ -1,4 +1,5 @@
-use Rattle.msrp_plan.proofs.Common.{◌≡◌, ◌+◌, ◌≤◌, ◌++◌, ◌∷◌, [], List, map, length, length-append, sym, ap, subst, ◌∙◌, arith, range_with_len}
+use Rattle.std.proofs.Common.{◌≡◌, ◌+◌, ◌≤◌, ◌++◌, ◌∷◌, ◌∙◌}
+use Rattle.msrp_plan.proofs.Common.{[], List, map, length, length-append, sym, ap, subst, arith, range_with_len}
 use Rattle.msrp_report.specs.Lines.{line_of}
 use Rattle.msrp_report.specs.declared.lines.Line.{Line}
 use Rattle.msrp_report.proofs.LineJobs.{map_next}

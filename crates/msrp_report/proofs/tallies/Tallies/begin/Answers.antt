@@ -1,4 +1,5 @@
-use Rattle.msrp_plan.proofs.Common.{sym, ◌∙◌}
+use Rattle.std.proofs.Common.{◌∙◌}
+use Rattle.msrp_plan.proofs.Common.{sym}
 use Rattle.msrp_report.proofs.TallySteps.{all_begun}
 use Rattle.msrp_report.proofs.tallies.Tallies.begin.Goals as goal
 

@@ -1,4 +1,5 @@
-use Rattle.msrp_plan.proofs.Common.{◌≡◌, List}
+use Rattle.std.proofs.Common.{◌≡◌}
+use Rattle.msrp_plan.proofs.Common.{List}
 use Rattle.msrp_plan.specs.declared.rows.Row.{Row as TraceRow}
 use Rattle.msrp_report.specs.Inside.Tallies.{HasReleased, due_count}
 use Rattle.msrp_report.proofs.tallies.Tallies.begin.Given as goal

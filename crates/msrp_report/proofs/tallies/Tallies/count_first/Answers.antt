@@ -1,4 +1,5 @@
-use Rattle.msrp_plan.proofs.Common.{◌==◌, true, false, slice_set, refl, ap, sym, ◌∙◌, arith, eq-eqb, eqb-true, false_from_ne_true, with_item, core_of}
+use Rattle.std.proofs.Common.{◌==◌, ◌∙◌}
+use Rattle.msrp_plan.proofs.Common.{true, false, slice_set, refl, ap, sym, arith, eq-eqb, eqb-true, false_from_ne_true, with_item, core_of}
 use Rattle.msrp_report.specs.Inside.Counts.{counted_as}
 use Rattle.msrp_report.specs.declared.counts.JobCount.{JobCount}
 use Rattle.msrp_report.specs.declared.tallies.Blocking.TheVariants.{Over}

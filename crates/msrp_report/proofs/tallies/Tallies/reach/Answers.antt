@@ -1,4 +1,5 @@
-use Rattle.msrp_plan.proofs.Common.{◌≡◌, ◌<◌, ◌*◌, ◌++◌, ◌∷◌, [], List, length, length-append, sym, ◌∙◌, arith, legal_due, all_weaker, start_last, mul_comm, div_below, PlanModel, IsPlan, IsRunStart}
+use Rattle.std.proofs.Common.{◌≡◌, ◌<◌, ◌*◌, ◌++◌, ◌∷◌, ◌∙◌}
+use Rattle.msrp_plan.proofs.Common.{[], List, length, length-append, sym, arith, legal_due, all_weaker, start_last, mul_comm, div_below, PlanModel, IsPlan, IsRunStart}
 use Rattle.msrp_plan.specs.declared.rows.Row.{Row as TraceRow}
 use Rattle.msrp_report.proofs.RowSteps.{tick_begun}
 use Rattle.msrp_report.proofs.TallySteps.{none_begun}

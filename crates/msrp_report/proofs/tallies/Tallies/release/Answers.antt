@@ -1,4 +1,5 @@
-use Rattle.msrp_plan.proofs.Common.{◌≡◌, ◌+◌, List, length, slice_set, refl, ap, subst, sym, ◌∙◌, arith, same_Some, slice_get_read, IsNonDecreasingBy, IsPermutation, with_item, first_later, job_at}
+use Rattle.std.proofs.Common.{◌≡◌, ◌+◌, ◌∙◌}
+use Rattle.msrp_plan.proofs.Common.{List, length, slice_set, refl, ap, subst, sym, arith, same_Some, slice_get_read, IsNonDecreasingBy, IsPermutation, with_item, first_later, job_at}
 use Rattle.std.proofs.lemmas.List.{with_items_is}
 use Rattle.std.specs.Vec.{with_items}
 use Rattle.msrp_plan.specs.declared.rows.Row.{Row as TraceRow}

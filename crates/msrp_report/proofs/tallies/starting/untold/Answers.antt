@@ -1,4 +1,5 @@
-use Rattle.msrp_plan.proofs.Common.{◌≡◌, refl, ◌∙◌, arith}
+use Rattle.std.proofs.Common.{◌≡◌, ◌∙◌}
+use Rattle.msrp_plan.proofs.Common.{refl, arith}
 use Rattle.msrp_report.proofs.Starting.{task_untold}
 use Rattle.msrp_report.proofs.tallies.starting.untold.Goals as goal
 

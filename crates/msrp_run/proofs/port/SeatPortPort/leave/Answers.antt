@@ -1,4 +1,5 @@
-use Rattle.msrp_plan.proofs.Common.{◌≡◌, ◌<◌, subst, sym}
+use Rattle.std.proofs.Common.{◌≡◌, ◌<◌}
+use Rattle.msrp_plan.proofs.Common.{subst, sym}
 use Rattle.msrp_plan.specs.declared.units.Call.TheVariants.{Leave}
 use Rattle.msrp_plan.specs.declared.units.Phase.TheVariants.{Holding}
 use Rattle.msrp_board.specs.SeatPorts.{port_room}

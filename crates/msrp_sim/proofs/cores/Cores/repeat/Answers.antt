@@ -1,4 +1,5 @@
-use Rattle.msrp_plan.proofs.Common.{◌≡◌, ◌<◌, Some, slice_get, IfSome, IfNone, ap, sym, ◌∙◌, subst, PlanModel}
+use Rattle.std.proofs.Common.{◌≡◌, ◌<◌, ◌∙◌}
+use Rattle.msrp_plan.proofs.Common.{Some, slice_get, IfSome, IfNone, ap, sym, subst, PlanModel}
 use Rattle.msrp_sim.specs.Cores.{CoresModel, Leaves, MakesNext, StandOn, again_of, known_row}
 use Rattle.msrp_core.specs.Machine.{MachineModel, next_known}
 use Rattle.msrp_sim.specs.CoresView.{cores_view}

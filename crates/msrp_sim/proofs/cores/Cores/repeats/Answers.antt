@@ -1,4 +1,5 @@
-use Rattle.msrp_plan.proofs.Common.{◌≡◌, ap, sym, ◌∙◌, subst}
+use Rattle.std.proofs.Common.{◌≡◌, ◌∙◌}
+use Rattle.msrp_plan.proofs.Common.{ap, sym, subst}
 use Rattle.std.specs.Option.{is_some}
 use Rattle.msrp_core.specs.Machine.{next_known}
 use Rattle.msrp_sim.specs.Cores.{CoresModel, again_of, known_row}

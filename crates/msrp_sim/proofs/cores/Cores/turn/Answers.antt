@@ -1,4 +1,5 @@
-use Rattle.msrp_plan.proofs.Common.{◌≡◌, ◌<◌, Some, slice_get, length, refl, ap, sym, ◌∙◌, subst, with_item, PlanModel}
+use Rattle.std.proofs.Common.{◌≡◌, ◌<◌, ◌∙◌}
+use Rattle.msrp_plan.proofs.Common.{Some, slice_get, length, refl, ap, sym, subst, with_item, PlanModel}
 use Rattle.msrp_core.specs.Machine.{MachineModel}
 use Rattle.msrp_sim.specs.Cores.{CoresModel, IsSomeTurn, Leaves, MakesNext, StandOn, TakesTurn}
 use Rattle.msrp_sim.specs.CoresView.{cores_view}

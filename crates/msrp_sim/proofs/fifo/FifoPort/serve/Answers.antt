@@ -1,4 +1,5 @@
-use Rattle.msrp_plan.proofs.Common.{◌≡◌, ◌<◌, ◌+◌, ◌++◌, ◌∷◌, [], subst, sym, length, length-append, get_or, All-push, IsDueCall, Answers}
+use Rattle.std.proofs.Common.{◌≡◌, ◌<◌, ◌+◌, ◌++◌, ◌∷◌}
+use Rattle.msrp_plan.proofs.Common.{[], subst, sym, length, length-append, get_or, All-push, IsDueCall, Answers}
 use Rattle.msrp_core.specs.Ports.{claim_in}
 use Rattle.msrp_sim.specs.Served.{FifoModel, lock_after_calls}
 use Rattle.msrp_sim.specs.Serving.{AreDrawn}

@@ -1,4 +1,5 @@
-use Rattle.msrp_plan.proofs.Common.{◌≡◌, ◌≤◌, ◌*◌, ℕ, [], length, ap, sym, ◌∙◌, arith, rules, vec_capacity, mul-le-mul_left, mul-le-mul_right}
+use Rattle.std.proofs.Common.{◌≡◌, ◌≤◌, ◌*◌, ◌∙◌}
+use Rattle.msrp_plan.proofs.Common.{ℕ, [], length, ap, sym, arith, rules, vec_capacity, mul-le-mul_left, mul-le-mul_right}
 use Rattle.msrp_sim.proofs.fifo.FifoPort.with_room.Goals as goal
 
 -- the greatest number of calls

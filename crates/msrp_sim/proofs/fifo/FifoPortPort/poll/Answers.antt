@@ -1,4 +1,5 @@
-use Rattle.msrp_plan.proofs.Common.{◌≡◌, ◌<◌, sym, subst, Answers}
+use Rattle.std.proofs.Common.{◌≡◌, ◌<◌}
+use Rattle.msrp_plan.proofs.Common.{sym, subst, Answers}
 use Rattle.msrp_plan.specs.declared.units.Call.TheVariants.{Poll}
 use Rattle.msrp_plan.specs.declared.units.Phase.TheVariants.{Queued}
 use Rattle.msrp_core.specs.Ports.{claim_in}

@@ -1,4 +1,5 @@
-use Rattle.msrp_plan.proofs.Common.{◌+◌, ◌*◌, sym, ◌∙◌, ap, get_or}
+use Rattle.std.proofs.Common.{◌+◌, ◌*◌, ◌∙◌}
+use Rattle.msrp_plan.proofs.Common.{sym, ap, get_or}
 use Rattle.msrp_sim.specs.Orders.{cores_of}
 use Rattle.msrp_sim.proofs.Rounds.{turn_in, rising_by}
 use Rattle.msrp_sim.proofs.orders.Order.core_at.Goals as goal

@@ -1,4 +1,5 @@
-use Rattle.msrp_plan.proofs.Common.{◌≡◌, ◌+◌, ◌*◌, [], ap, arith, refl, subst, take, IsPlan}
+use Rattle.std.proofs.Common.{◌≡◌, ◌+◌, ◌*◌}
+use Rattle.msrp_plan.proofs.Common.{[], ap, arith, refl, subst, take, IsPlan}
 use Rattle.msrp_sim.specs.Orders.{cores_of}
 use Rattle.msrp_sim.proofs.simulation.Simulation.with_room.Goals as goal
 

@@ -1,4 +1,5 @@
-use Rattle.msrp_plan.proofs.Common.{◌≡◌, ◌<◌, ◌++◌, sym, subst, IsDueCall}
+use Rattle.std.proofs.Common.{◌≡◌, ◌<◌, ◌++◌}
+use Rattle.msrp_plan.proofs.Common.{sym, subst, IsDueCall}
 use Rattle.msrp_plan.specs.declared.units.Phase.TheVariants.{Free}
 use Rattle.msrp_core.specs.Ports.{Adds, asked, claim_in}
 use Rattle.msrp_sim.specs.Serving.{IsTold}

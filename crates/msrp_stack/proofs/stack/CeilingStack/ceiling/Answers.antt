@@ -1,4 +1,5 @@
-use Rattle.msrp_plan.proofs.Common.{◌≡◌, reverse, subst}
+use Rattle.std.proofs.Common.{◌≡◌}
+use Rattle.msrp_plan.proofs.Common.{reverse, subst}
 use Rattle.msrp_stack.specs.Stack.{current_ceiling, is_held}
 use Rattle.msrp_stack.specs.Layers.{layers_of}
 use Rattle.msrp_stack.specs.StackView.{started_of}

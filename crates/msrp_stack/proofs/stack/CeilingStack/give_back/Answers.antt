@@ -1,4 +1,5 @@
-use Rattle.msrp_plan.proofs.Common.{◌≡◌, ◌-◌, ◌++◌, slice_set, subst, sym, ap, refl, ◌∙◌, option_to_list}
+use Rattle.std.proofs.Common.{◌≡◌, ◌-◌, ◌++◌, ◌∙◌}
+use Rattle.msrp_plan.proofs.Common.{slice_set, subst, sym, ap, refl, option_to_list}
 use Rattle.msrp_stack.specs.Stack.{SomeHeld, StackModel, without_held}
 use Rattle.msrp_stack.specs.StackView.{started_of, IsStack}
 use Rattle.msrp_stack.specs.declared.stack.Started.{Started}

@@ -1,4 +1,5 @@
-use Rattle.msrp_plan.proofs.Common.{◌≡◌, subst}
+use Rattle.std.proofs.Common.{◌≡◌}
+use Rattle.msrp_plan.proofs.Common.{subst}
 use Rattle.msrp_stack.specs.Stack.{top, newest}
 use Rattle.msrp_stack.specs.StackView.{started_of}
 use Rattle.msrp_stack.proofs.Tops.{newest_first}

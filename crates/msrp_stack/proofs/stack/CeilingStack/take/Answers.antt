@@ -1,4 +1,5 @@
-use Rattle.msrp_plan.proofs.Common.{◌≡◌, ◌-◌, ◌<◌, length, slice_set, subst, sym, ap, refl, ◌∙◌, arith}
+use Rattle.std.proofs.Common.{◌≡◌, ◌-◌, ◌<◌, ◌∙◌}
+use Rattle.msrp_plan.proofs.Common.{length, slice_set, subst, sym, ap, refl, arith}
 use Rattle.msrp_stack.specs.Stack.{HasRoom, StackModel, with_held}
 use Rattle.msrp_stack.specs.StackView.{started_of, IsStack}
 use Rattle.msrp_stack.specs.declared.stack.Held.{Held}

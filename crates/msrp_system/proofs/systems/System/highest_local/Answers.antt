@@ -1,4 +1,5 @@
-use Rattle.msrp_plan.proofs.Common.{ℕ, Bool, ◌≡◌, ◌&&◌, max, not, sym, ◌∙◌, take, arith, is_global, local_ceiling, task_at}
+use Rattle.std.proofs.Common.{◌≡◌, ◌&&◌, ◌∙◌}
+use Rattle.msrp_plan.proofs.Common.{ℕ, Bool, max, not, sym, take, arith, is_global, local_ceiling, task_at}
 use Rattle.msrp_plan.specs.Units.{holds_after}
 use Rattle.msrp_system.proofs.GatheredTasks.{greatest_range_with, greatest_range_kept}
 use Rattle.msrp_system.proofs.systems.System.highest_local.Goals as goal

@@ -1,4 +1,5 @@
-use Rattle.msrp_plan.proofs.Common.{◌≡◌, ◌&&◌, not, map, take, filter, range_with_len, greatest, is_global, local_ceiling, task_at}
+use Rattle.std.proofs.Common.{◌≡◌, ◌&&◌}
+use Rattle.msrp_plan.proofs.Common.{not, map, take, filter, range_with_len, greatest, is_global, local_ceiling, task_at}
 use Rattle.msrp_plan.specs.Units.{holds_after}
 use Rattle.msrp_system.proofs.systems.System.highest_local.Given as goal
 

@@ -1,4 +1,5 @@
-use Rattle.msrp_plan.proofs.Common.{◌&&◌, ◌<◌, length, sym, ◌∙◌, take, arith, is_global, task_at}
+use Rattle.std.proofs.Common.{◌&&◌, ◌<◌, ◌∙◌}
+use Rattle.msrp_plan.proofs.Common.{length, sym, take, arith, is_global, task_at}
 use Rattle.msrp_plan.specs.Ceiling.{resources}
 use Rattle.msrp_plan.specs.Units.{holds_after}
 use Rattle.msrp_plan.proofs.Lists.AnyAll.{any_in, in_range}

@@ -1,4 +1,5 @@
-use Rattle.msrp_plan.proofs.Common.{◌≡◌, ◌&&◌, false, take, list_any, range_with_len, is_global, task_at}
+use Rattle.std.proofs.Common.{◌≡◌, ◌&&◌}
+use Rattle.msrp_plan.proofs.Common.{false, take, list_any, range_with_len, is_global, task_at}
 use Rattle.msrp_plan.specs.Units.{holds_after}
 use Rattle.msrp_system.proofs.systems.System.holds_some_global.Given as goal
 

@@ -1,4 +1,5 @@
-use Rattle.msrp_plan.proofs.Common.{ap, ◌∙◌, arith, length, slice_index_or, get_or-map-range_with_len, length-map-range_with_len, is_global, List, Bool}
+use Rattle.std.proofs.Common.{◌∙◌}
+use Rattle.msrp_plan.proofs.Common.{ap, arith, length, slice_index_or, get_or-map-range_with_len, length-map-range_with_len, is_global, List, Bool}
 use Rattle.msrp_system.proofs.systems.System.is_global.Goals as goal
 
 pub returns-then-place-known : goal.returns-then-place-known

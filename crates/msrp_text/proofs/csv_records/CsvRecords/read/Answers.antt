@@ -1,4 +1,5 @@
-use Rattle.msrp_plan.proofs.Common.{rules, ◌≡◌, None}
+use Rattle.std.proofs.Common.{◌≡◌}
+use Rattle.msrp_plan.proofs.Common.{rules, None}
 use Rattle.msrp_text.proofs.Remaining.{read-gives, stops-only}
 use Rattle.msrp_text.proofs.csv_records.CsvRecords.read.Goals as goal
 

@@ -1,4 +1,5 @@
-use Rattle.msrp_plan.proofs.Common.{◌≡◌, ◌+◌, ◌-◌, ◌∙◌, [], take, refl, sym, ap, append-nil, arith, nat_tests}
+use Rattle.std.proofs.Common.{◌≡◌, ◌+◌, ◌-◌, ◌∙◌}
+use Rattle.msrp_plan.proofs.Common.{[], take, refl, sym, ap, append-nil, arith, nat_tests}
 use Rattle.msrp_text.specs.declared.lines.TheConstants.{ROOM}
 use Rattle.msrp_text.proofs.AheadBytes.{before-kept, before-same, filled-behind, kept-behind, moved-ahead, read-ahead}
 use Rattle.msrp_text.proofs.lines.Lines.fetch.Goals as goal

@@ -1,4 +1,4 @@
-use Rattle.msrp_plan.proofs.Common.{◌∙◌}
+use Rattle.std.proofs.Common.{◌∙◌}
 use Rattle.msrp_text.proofs.AheadBytes.{fed-front}
 use Rattle.msrp_text.proofs.PlainLines.{csv-begun, csv-fresh}
 use Rattle.msrp_text.proofs.lines.Lines.into_records.Goals.{then-rest, else-rest}

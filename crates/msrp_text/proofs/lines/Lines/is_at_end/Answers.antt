@@ -1,4 +1,5 @@
-use Rattle.msrp_plan.proofs.Common.{◌≡◌, ◌∙◌, ◌++◌, [], ℕ, List, false, not, length, refl, ap, append-nil, arith, inl, inr}
+use Rattle.std.proofs.Common.{◌≡◌, ◌∙◌, ◌++◌}
+use Rattle.msrp_plan.proofs.Common.{[], ℕ, List, false, not, length, refl, ap, append-nil, arith, inl, inr}
 use Rattle.msrp_text.specs.Ahead.{has_failed, lines_ahead}
 use Rattle.msrp_text.proofs.AheadBytes.{none-left}
 use Rattle.msrp_text.proofs.PlainLines.{none-more}

@@ -1,4 +1,5 @@
-use Rattle.msrp_plan.proofs.Common.{◌≡◌, ◌<◌, ◌∷◌, ◌∙◌, ◌+◌, ◌-◌, [], true, drop, take, slice_index, refl, sym, ap, arith}
+use Rattle.std.proofs.Common.{◌≡◌, ◌<◌, ◌∷◌, ◌∙◌, ◌+◌, ◌-◌}
+use Rattle.msrp_plan.proofs.Common.{[], true, drop, take, slice_index, refl, sym, ap, arith}
 use Rattle.msrp_text.specs.Ahead.{lines_ahead}
 use Rattle.msrp_text.specs.Lines.{is_break}
 use Rattle.msrp_text.specs.declared.front.TheConstants.{LONGEST}

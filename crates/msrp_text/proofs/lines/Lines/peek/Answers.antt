@@ -1,4 +1,5 @@
-use Rattle.msrp_plan.proofs.Common.{◌-◌, ◌<◌, refl, arith}
+use Rattle.std.proofs.Common.{◌-◌, ◌<◌}
+use Rattle.msrp_plan.proofs.Common.{refl, arith}
 use Rattle.msrp_text.specs.Ahead.{buffered}
 use Rattle.msrp_text.specs.declared.lines.TheConstants.{ROOM}
 use Rattle.msrp_text.proofs.Fronts.{no-line-on}

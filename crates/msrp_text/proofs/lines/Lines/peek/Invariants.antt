@@ -1,4 +1,5 @@
-use Rattle.msrp_plan.proofs.Common.{◌-◌, ℕ, List}
+use Rattle.std.proofs.Common.{◌-◌}
+use Rattle.msrp_plan.proofs.Common.{ℕ, List}
 use Rattle.msrp_text.specs.Ahead.{buffered, lines_ahead}
 use Rattle.msrp_text.specs.Lines.{HasTaken}
 use Rattle.msrp_text.specs.Plain.{NoLine}

@@ -1,5 +1,5 @@
-use Rattle.msrp_plan.proofs.Common.{◌≡◌, ◌≤◌, ◌-◌, ◌++◌, ◌∙◌, length, take, drop, arith, refl, sym, length-append, length-drop, take_all, take_at}
-use Rattle.std.proofs.Common.{length-take}
+use Rattle.msrp_plan.proofs.Common.{length, take, drop, arith, refl, sym, length-append, length-drop, take_all, take_at}
+use Rattle.std.proofs.Common.{◌≡◌, ◌≤◌, ◌-◌, ◌++◌, ◌∙◌, length-take}
 use Rattle.msrp_text.proofs.AheadBytes.{met-ahead, none-left, read-through, taken-ahead}
 use Rattle.msrp_text.proofs.lines.LinesRead.read.Goals as goal
 

@@ -1,4 +1,5 @@
-use Rattle.msrp_plan.proofs.Common.{◌+◌, ◌++◌, ◌∙◌, List, ℕ, ap, inl, inr, length, refl, subst, sym, cases_Bool}
+use Rattle.std.proofs.Common.{◌+◌, ◌++◌, ◌∙◌}
+use Rattle.msrp_plan.proofs.Common.{List, ℕ, ap, inl, inr, length, refl, subst, sym, cases_Bool}
 use Rattle.msrp_text.specs.Plain.{BeginsWith}
 use Rattle.msrp_text.specs.Records.{bytes_ahead, read_failed}
 use Rattle.msrp_text.proofs.AheadBytes.{kept-known}

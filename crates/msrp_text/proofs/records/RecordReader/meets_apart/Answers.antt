@@ -1,4 +1,5 @@
-use Rattle.msrp_plan.proofs.Common.{List, ℕ, ◌++◌, subst, take}
+use Rattle.std.proofs.Common.{◌++◌}
+use Rattle.msrp_plan.proofs.Common.{List, ℕ, subst, take}
 use Rattle.msrp_text.specs.Plain.{EndsLine}
 use Rattle.msrp_text.specs.Records.{bytes_ahead}
 use Rattle.msrp_text.proofs.Fronts.{begins-taken, line-unfed}

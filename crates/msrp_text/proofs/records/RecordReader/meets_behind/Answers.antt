@@ -1,4 +1,5 @@
-use Rattle.msrp_plan.proofs.Common.{◌+◌, ◌++◌, inl, length}
+use Rattle.std.proofs.Common.{◌+◌, ◌++◌}
+use Rattle.msrp_plan.proofs.Common.{inl, length}
 use Rattle.msrp_text.proofs.Fronts.{begins-taken, front-behind, line-fed}
 use Rattle.msrp_text.proofs.records.RecordReader.meets_behind.Goals as goal
 

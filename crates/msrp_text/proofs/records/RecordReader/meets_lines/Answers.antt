@@ -1,4 +1,5 @@
-use Rattle.msrp_plan.proofs.Common.{◌≡◌, ◌++◌, ◌∙◌, ap, append_assoc, drop, length, refl, sym, take, Decides-eqb, take_at, starts_is}
+use Rattle.std.proofs.Common.{◌≡◌, ◌++◌, ◌∙◌}
+use Rattle.msrp_plan.proofs.Common.{ap, append_assoc, drop, length, refl, sym, take, Decides-eqb, take_at, starts_is}
 use mathlib.Core.Bool.{true≢false}
 use Rattle.msrp_text.specs.Records.{bytes_ahead}
 use Rattle.msrp_text.proofs.AheadBytes.{bytes-ahead, kept-known}

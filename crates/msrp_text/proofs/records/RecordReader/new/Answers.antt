@@ -1,4 +1,5 @@
-use Rattle.msrp_plan.proofs.Common.{◌∙◌, arith, refl}
+use Rattle.std.proofs.Common.{◌∙◌}
+use Rattle.msrp_plan.proofs.Common.{arith, refl}
 use Rattle.msrp_text.proofs.LineEnds.{none-taken}
 use Rattle.msrp_text.proofs.PlainLines.{lines-new}
 use Rattle.msrp_text.proofs.records.RecordReader.new.Goals as goal

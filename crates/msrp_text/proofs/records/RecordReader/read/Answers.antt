@@ -1,4 +1,5 @@
-use Rattle.msrp_plan.proofs.Common.{◌∙◌, sym}
+use Rattle.std.proofs.Common.{◌∙◌}
+use Rattle.msrp_plan.proofs.Common.{sym}
 use Rattle.msrp_text.proofs.LineEnds.{csv-empty, csv-taken}
 use Rattle.msrp_text.proofs.records.RecordReader.read.Goals as goal
 

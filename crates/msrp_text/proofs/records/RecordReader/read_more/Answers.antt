@@ -1,4 +1,5 @@
-use Rattle.msrp_plan.proofs.Common.{◌∙◌, ◌++◌, ℕ, List, ap, append_assoc}
+use Rattle.std.proofs.Common.{◌∙◌, ◌++◌}
+use Rattle.msrp_plan.proofs.Common.{ℕ, List, ap, append_assoc}
 use Rattle.msrp_text.proofs.AheadBytes.{keeps-keeps}
 use Rattle.msrp_text.proofs.records.RecordReader.read_more.Goals as goal
 

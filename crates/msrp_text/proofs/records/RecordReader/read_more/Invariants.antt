@@ -1,4 +1,5 @@
-use Rattle.msrp_plan.proofs.Common.{◌≡◌, ◌++◌, ◌-◌, ℕ, List, length, Keeps}
+use Rattle.std.proofs.Common.{◌≡◌, ◌++◌, ◌-◌}
+use Rattle.msrp_plan.proofs.Common.{ℕ, List, length, Keeps}
 use Rattle.msrp_text.specs.Lines.{HasRead}
 use Rattle.msrp_text.specs.Records.{KeepsRecords, bytes_ahead, bytes_left, records_left, stop_of}
 use Rattle.msrp_text.proofs.records.RecordReader.read_more.Given as goal

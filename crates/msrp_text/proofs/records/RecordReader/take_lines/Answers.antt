@@ -1,4 +1,5 @@
-use Rattle.msrp_plan.proofs.Common.{◌≡◌, subst, take}
+use Rattle.std.proofs.Common.{◌≡◌}
+use Rattle.msrp_plan.proofs.Common.{subst, take}
 use Rattle.msrp_text.specs.Ahead.{lines_ahead}
 use Rattle.msrp_text.specs.Lines.{HasTaken, HasTakenBy}
 use Rattle.msrp_text.specs.Plain.{lines_text}

@@ -1,4 +1,5 @@
-use Rattle.msrp_plan.proofs.Common.{◌≡◌, ℕ, Some, ap, ◌∙◌, subst, slice_get}
+use Rattle.std.proofs.Common.{◌≡◌, ◌∙◌}
+use Rattle.msrp_plan.proofs.Common.{ℕ, Some, ap, subst, slice_get}
 use Rattle.msrp_board.specs.Seats.{SeatModel, book_at}
 use Rattle.msrp_board.specs.Steps.{both}
 use Rattle.msrp_thread_tests.proofs.Stepping.{AreLeft, has_left}

@@ -1,4 +1,5 @@
-use Rattle.msrp_plan.proofs.Common.{ℕ, List, ◌≡◌, ◌≤◌, ◌<◌, ◌%◌, ◌++◌, ◌∙◌, [], decimal, get_or, length, take, ap, sym, arith, flat_map, get_or-take, length-map}
+use Rattle.std.proofs.Common.{◌≡◌, ◌≤◌, ◌<◌, ◌%◌, ◌++◌, ◌∙◌}
+use Rattle.msrp_plan.proofs.Common.{ℕ, List, [], decimal, get_or, length, take, ap, sym, arith, flat_map, get_or-take, length-map}
 use Rattle.std.proofs.lemmas.List.{length-take}
 use Rattle.msrp_trace.specs.Texts.{TextsModel, texts_of}
 use Rattle.msrp_trace.specs.declared.line.CoreText.{CoreText}

@@ -1,4 +1,5 @@
-use Rattle.msrp_plan.proofs.Common.{◌≡◌, ◌++◌, ◌∙◌, ◌<◌, ◌-◌, ℕ, List, ap, decimal, length, slice_index, sym, get_or-append}
+use Rattle.std.proofs.Common.{◌≡◌, ◌++◌, ◌∙◌, ◌<◌, ◌-◌}
+use Rattle.msrp_plan.proofs.Common.{ℕ, List, ap, decimal, length, slice_index, sym, get_or-append}
 use Rattle.msrp_trace.proofs.Counting.{next_differs, next_within}
 use Rattle.msrp_trace.proofs.foreseen.Foreseen.turn_to.Goals as goal
 

@@ -1,4 +1,5 @@
-use Rattle.msrp_plan.proofs.Common.{◌+◌, ◌++◌, ◌∷◌, [], ◌∙◌, decimal, ap, sym, decimal_digit}
+use Rattle.std.proofs.Common.{◌+◌, ◌++◌, ◌∷◌, ◌∙◌}
+use Rattle.msrp_plan.proofs.Common.{[], decimal, ap, sym, decimal_digit}
 use Rattle.msrp_trace.specs.Gathering.{next_field}
 use Rattle.msrp_trace.proofs.line.LineText.begin.Goals as goal
 

@@ -1,4 +1,4 @@
-use Rattle.msrp_plan.proofs.Common.{◌∙◌}
+use Rattle.std.proofs.Common.{◌∙◌}
 use Rattle.msrp_trace.proofs.Records.{five_made, head-is}
 use Rattle.msrp_trace.proofs.line.LineText.head.Goals as goal
 

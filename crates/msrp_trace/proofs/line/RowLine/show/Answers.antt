@@ -1,4 +1,5 @@
-use Rattle.msrp_plan.proofs.Common.{◌≡◌, true}
+use Rattle.std.proofs.Common.{◌≡◌}
+use Rattle.msrp_plan.proofs.Common.{true}
 use Rattle.msrp_trace.proofs.Kept.{same_line}
 use Rattle.msrp_trace.proofs.line.RowLine.show.Goals as goal
 

@@ -1,4 +1,5 @@
-use Rattle.msrp_plan.proofs.Common.{◌∙◌, ◌++◌, ap}
+use Rattle.std.proofs.Common.{◌∙◌, ◌++◌}
+use Rattle.msrp_plan.proofs.Common.{ap}
 use Rattle.msrp_trace.proofs.Gathered.{gathers-on}
 use Rattle.msrp_trace.proofs.page.Page.add.Goals as goal
 

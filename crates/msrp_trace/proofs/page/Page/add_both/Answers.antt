@@ -1,4 +1,5 @@
-use Rattle.msrp_plan.proofs.Common.{◌∙◌, ◌++◌, ap, append_assoc}
+use Rattle.std.proofs.Common.{◌∙◌, ◌++◌}
+use Rattle.msrp_plan.proofs.Common.{ap, append_assoc}
 use Rattle.msrp_trace.proofs.Gathered.{gathers-on}
 use Rattle.msrp_trace.proofs.page.Page.add_both.Goals as goal
 

@@ -1,4 +1,5 @@
-use Rattle.msrp_plan.proofs.Common.{[], ◌∷◌, length-append, ◌≡◌, ◌+◌, sym, ap, arith, length, ◌∙◌, decimal, refl}
+use Rattle.std.proofs.Common.{◌∷◌, ◌≡◌, ◌+◌, ◌∙◌}
+use Rattle.msrp_plan.proofs.Common.{[], length-append, sym, ap, arith, length, decimal, refl}
 use Rattle.msrp_trace.proofs.MetRows.{met_row, row_begins, row_line}
 use Rattle.msrp_trace.proofs.ReadBack.{whole_line}
 use Rattle.msrp_trace.proofs.Standing.{line_stands}

@@ -1,4 +1,5 @@
-use Rattle.msrp_plan.proofs.Common.{◌∙◌, ◌+◌, decimal, ap, sym, arith, none-some}
+use Rattle.std.proofs.Common.{◌∙◌, ◌+◌}
+use Rattle.msrp_plan.proofs.Common.{decimal, ap, sym, arith, none-some}
 use Rattle.msrp_trace.proofs.FirstRows.{begins_next, core_found, digit_behind}
 use Rattle.msrp_trace.proofs.reading.TraceReader.core_ahead.Goals as goal
 

@@ -1,4 +1,5 @@
-use Rattle.msrp_plan.proofs.Common.{◌≡◌, ◌%◌, Option, None, Some, Ok, true, option_map, slice_index_or, ap, subst, sym, ◌∙◌, in_tick}
+use Rattle.std.proofs.Common.{◌≡◌, ◌%◌, ◌∙◌}
+use Rattle.msrp_plan.proofs.Common.{Option, None, Some, Ok, true, option_map, slice_index_or, ap, subst, sym, in_tick}
 use Rattle.msrp_plan.specs.declared.rows.Row.{Row}
 use Rattle.std.specs.Option.{IfSome}
 use Rattle.msrp_trace.specs.Laws.{is_short}

@@ -1,4 +1,5 @@
-use Rattle.msrp_plan.proofs.Common.{◌≡◌, ℕ, refl, sym, ◌∙◌, ap, subst, List, Some, None, Err, drop, Ok}
+use Rattle.std.proofs.Common.{◌≡◌, ◌∙◌}
+use Rattle.msrp_plan.proofs.Common.{ℕ, refl, sym, ap, subst, List, Some, None, Err, drop, Ok}
 use Rattle.csv.specs.Records.{fields_of}
 use Rattle.msrp_text.proofs.Remaining.{gave-none, gave-one}
 use Rattle.msrp_text.specs.Reading.{record_at}

@@ -1,4 +1,5 @@
-use Rattle.msrp_plan.proofs.Common.{rules, ◌≡◌, ◌+◌, Err, Ok, ap, refl}
+use Rattle.std.proofs.Common.{◌≡◌, ◌+◌}
+use Rattle.msrp_plan.proofs.Common.{rules, Err, Ok, ap, refl}
 use Rattle.msrp_text.proofs.Remaining.{gave-none, gave-one}
 use Rattle.msrp_trace.specs.Reading.{told_after}
 use Rattle.msrp_trace.proofs.Telling.{answers_end, answers_refusal, answers_row, left_rows, rows_left}

@@ -1,4 +1,5 @@
-use Rattle.msrp_plan.proofs.Common.{◌≡◌, sym, ap, ◌∙◌, decimal, inl, inr, refl}
+use Rattle.std.proofs.Common.{◌≡◌, ◌∙◌}
+use Rattle.msrp_plan.proofs.Common.{sym, ap, decimal, inl, inr, refl}
 use Rattle.msrp_trace.proofs.MetRows.{met_row, row_begins, row_line}
 use Rattle.msrp_trace.proofs.ReadBack.{short_line, whole_line}
 use Rattle.msrp_trace.proofs.Shown.{no_line}

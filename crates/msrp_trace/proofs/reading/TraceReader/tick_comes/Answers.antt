@@ -1,4 +1,5 @@
-use Rattle.msrp_plan.proofs.Common.{◌≡◌, ◌≤◌, ◌+◌, ◌++◌, ◌∙◌, ℕ, List, map, length, take, decimal, ap, sym, arith, flat_map, length-map}
+use Rattle.std.proofs.Common.{◌≡◌, ◌≤◌, ◌+◌, ◌++◌, ◌∙◌}
+use Rattle.msrp_plan.proofs.Common.{ℕ, List, map, length, take, decimal, ap, sym, arith, flat_map, length-map}
 use Rattle.msrp_text.specs.Plain.{split_commas}
 use Rattle.msrp_trace.specs.Reading.{told_after}
 use Rattle.msrp_trace.specs.TraceText.{row_text}

@@ -1,4 +1,5 @@
-use Rattle.msrp_plan.proofs.Common.{◌∙◌, ◌++◌, ap, arith, sym, decimal_digit}
+use Rattle.std.proofs.Common.{◌∙◌, ◌++◌}
+use Rattle.msrp_plan.proofs.Common.{ap, arith, sym, decimal_digit}
 use Rattle.msrp_trace.proofs.text.Text.number.Goals as goal
 
 pub returns-then-number-lt10-clause-text : goal.returns-then-number-lt10-clause-text

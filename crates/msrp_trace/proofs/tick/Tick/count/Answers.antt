@@ -1,4 +1,5 @@
-use Rattle.msrp_plan.proofs.Common.{◌<◌, ◌∙◌, length, arith, sym, subst, decimal_nonempty}
+use Rattle.std.proofs.Common.{◌<◌, ◌∙◌}
+use Rattle.msrp_plan.proofs.Common.{length, arith, sym, subst, decimal_nonempty}
 use Rattle.msrp_trace.proofs.Counting.{counted_up}
 use Rattle.msrp_trace.proofs.tick.Tick.count.Goals as goal
 

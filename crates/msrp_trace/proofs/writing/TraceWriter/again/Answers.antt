@@ -1,4 +1,5 @@
-use Rattle.msrp_plan.proofs.Common.{ℕ, ◌++◌, List, ap, decimal, subst, ◌∙◌}
+use Rattle.std.proofs.Common.{◌++◌, ◌∙◌}
+use Rattle.msrp_plan.proofs.Common.{ℕ, List, ap, decimal, subst}
 use Rattle.msrp_trace.specs.Gathering.{Gathers, WriterModel}
 use Rattle.msrp_trace.specs.Texts.{TextsModel, text_of_core}
 use Rattle.msrp_trace.proofs.Gathered.{gathers-as}

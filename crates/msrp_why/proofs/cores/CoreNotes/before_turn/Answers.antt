@@ -1,4 +1,5 @@
-use Rattle.msrp_plan.proofs.Common.{◌<◌, length, sym, subst, log_of, PlanModel, IsSomeAnd}
+use Rattle.std.proofs.Common.{◌<◌}
+use Rattle.msrp_plan.proofs.Common.{length, sym, subst, log_of, PlanModel, IsSomeAnd}
 use Rattle.msrp_core.specs.CoreStates.{IsCoreState}
 use Rattle.msrp_why.proofs.Deciding.{made_noted}
 use Rattle.msrp_why.proofs.cores.CoreNotes.before_turn.Goals as goal

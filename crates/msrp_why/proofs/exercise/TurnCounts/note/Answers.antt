@@ -1,4 +1,5 @@
-use Rattle.msrp_plan.proofs.Common.{[], ap, subst, ◌∙◌, IsLegal, each_at}
+use Rattle.std.proofs.Common.{◌∙◌}
+use Rattle.msrp_plan.proofs.Common.{[], ap, subst, IsLegal, each_at}
 use Rattle.msrp_core.specs.CoreStates.{IsCoreState}
 use Rattle.msrp_why.specs.Exercise.{one_if}
 use Rattle.msrp_why.specs.declared.exercise.TurnCounts.{TurnCounts}

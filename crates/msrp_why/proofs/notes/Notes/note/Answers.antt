@@ -1,4 +1,5 @@
-use Rattle.msrp_plan.proofs.Common.{◌≡◌, ◌++◌, ◌∷◌, [], Some, length, refl, sym, subst, ◌∙◌, arith, slice_get, slice_get_read, IsLegal, legal_due, each_at}
+use Rattle.std.proofs.Common.{◌≡◌, ◌++◌, ◌∷◌, ◌∙◌}
+use Rattle.msrp_plan.proofs.Common.{[], Some, length, refl, sym, subst, arith, slice_get, slice_get_read, IsLegal, legal_due, each_at}
 use Rattle.msrp_why.specs.Exercise.{AreTurnCounts}
 use Rattle.msrp_why.specs.Inside.Sections.{AreSections}
 use Rattle.msrp_why.specs.Noted.{AreCoresNoted}

@@ -1,4 +1,5 @@
-use Rattle.msrp_plan.proofs.Common.{◌≡◌, ◌<◌, ◌∷◌, [], ℕ, Some, true, length, length-append, refl, sym, ◌∙◌, subst, arith, slice_get, length-set, slice_get_read, is_request}
+use Rattle.std.proofs.Common.{◌≡◌, ◌<◌, ◌∷◌, ◌∙◌}
+use Rattle.msrp_plan.proofs.Common.{[], ℕ, Some, true, length, length-append, refl, sym, subst, arith, slice_get, length-set, slice_get_read, is_request}
 use Rattle.msrp_why.specs.Noted.{last_with, queue_with}
 use Rattle.msrp_why.specs.declared.notes.ResourceNotes.{ResourceNotes}
 use Rattle.msrp_why.proofs.Noting.{each_on, noted_off, noted_past, last_row_push, one_more}

@@ -1,4 +1,5 @@
-use Rattle.msrp_plan.proofs.Common.{◌≡◌, Some, length, refl, subst, slice_get, slice_get_read}
+use Rattle.std.proofs.Common.{◌≡◌}
+use Rattle.msrp_plan.proofs.Common.{Some, length, refl, subst, slice_get, slice_get_read}
 use Rattle.msrp_why.proofs.notes.Notes.state.Goals as goal
 
 pub returns : goal.returns

@@ -1,5 +1,5 @@
-use Rattle.msrp_plan.proofs.Common.{◌≡◌, ◌<◌, Bool, List, Global, Some, Vec, length, refl, ap, sym, ◌∙◌, subst, slice_get, true≢false, slice_get-map, slice_get_read}
-use Rattle.std.proofs.Common.{lt-ltb}
+use Rattle.msrp_plan.proofs.Common.{Bool, List, Global, Some, Vec, length, refl, ap, sym, subst, slice_get, true≢false, slice_get-map, slice_get_read}
+use Rattle.std.proofs.Common.{◌≡◌, ◌<◌, ◌∙◌, lt-ltb}
 use Rattle.std.specs.Option.{option_map}
 use Rattle.msrp_why.proofs.sections.Sections.is_open.Goals as goal
 

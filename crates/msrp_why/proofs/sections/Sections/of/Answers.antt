@@ -1,4 +1,5 @@
-use Rattle.msrp_plan.proofs.Common.{◌≡◌, ◌≤◌, ◌+◌, ◌∷◌, [], ℕ, Bool, Global, List, Some, Vec, ap, sym, subst, ◌∙◌, arith, length, length-append, map, slice_get, length-map, task_at, places_push}
+use Rattle.std.proofs.Common.{◌≡◌, ◌≤◌, ◌+◌, ◌∷◌, ◌∙◌}
+use Rattle.msrp_plan.proofs.Common.{[], ℕ, Bool, Global, List, Some, Vec, ap, sym, subst, arith, length, length-append, map, slice_get, length-map, task_at, places_push}
 use Rattle.std.proofs.lemmas.List.{map_push}
 use Rattle.msrp_why.specs.Inside.Sections.{AreOpen}
 use Rattle.msrp_why.proofs.sections.Sections.of.Goals as goal

@@ -1,4 +1,5 @@
-use Rattle.msrp_plan.proofs.Common.{◌≡◌, ◌≤◌, ℕ, Bool, List, Some, length, map, slice_get, task_at}
+use Rattle.std.proofs.Common.{◌≡◌, ◌≤◌}
+use Rattle.msrp_plan.proofs.Common.{ℕ, Bool, List, Some, length, map, slice_get, task_at}
 use Rattle.std.specs.Vec.{vec_capacity}
 use Rattle.msrp_why.specs.Inside.Sections.{AreOpen}
 use Rattle.msrp_why.proofs.sections.Sections.of.Given as goal

@@ -1,4 +1,5 @@
-use Rattle.msrp_plan.proofs.Common.{◌<◌, ◌∙◌, [], refl, arith, ap}
+use Rattle.std.proofs.Common.{◌<◌, ◌∙◌}
+use Rattle.msrp_plan.proofs.Common.{[], refl, arith, ap}
 use Rattle.msrp_board.specs.declared.books.BoardSize.{BoardSize}
 use Rattle.msrp_merge.specs.Turns.{LogModel}
 use Rattle.msrp_run.proofs.Threading.{next_seat, others_less}
