@@ -1,2 +1,0 @@
-pub mod GatheredTasks
-pub mod AcceptedSystems

@@ -1,2 +1,0 @@
--- Words of the tables. No public contract speaks of them.
-pub mod Views

@@ -1,2 +1,0 @@
-pub mod Systems
-pub mod Inside
