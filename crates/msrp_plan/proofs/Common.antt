@@ -26,7 +26,7 @@ pub use Rattle.msrp_plan.proofs.TaskUnits.Nesting.{even_after, held_push, held_t
 pub use Rattle.msrp_plan.proofs.TaskUnits.PlanUnits.{units_lock}
 pub use Rattle.msrp_plan.proofs.TaskUnits.UnitCounts.{held_unlock}
 pub use Rattle.msrp_plan.proofs.TaskUnits.UnitKinds.{Grants, Locks, Releases, Runs, Spins, Takes, Unlocks, step_of}
-pub use Rattle.msrp_plan.proofs.Writes.{wrote-more, wrote-nothing}
+pub use Rattle.msrp_plan.proofs.Writes.{wrote-more, wrote-nothing, some-more, some-nothing, wrote-some}
 pub use Rattle.msrp_plan.specs.Actions.{allows, does_next, does_unit, is_global_unit, is_idle, res_of_unit, same_res}
 pub use Rattle.msrp_plan.specs.Aheads.{carries_ahead, carries_its_ahead}
 pub use Rattle.msrp_plan.specs.Blocking.{blocked, count_after, first_later}

@@ -1,5 +1,5 @@
 -- Facts on bytes that a writer is known to hold.
-use Rattle.msrp_plan.specs.Common.{ℕ, List, [], length, take, drop, Option, Bool, true, false, Wrote}
+use Rattle.msrp_plan.specs.Common.{ℕ, List, [], length, take, drop, Option, Bool, true, false, Wrote, WroteSome}
 use Rattle.msrp_plan.specs.declared.bytes.Sink.{Sink}
 use Rattle.std.proofs.Common.{◌≡◌, ◌+◌, ◌-◌, ◌≤◌, ◌++◌, length-drop, refl, sym, append_assoc, ◌∙◌, arith}
 use Rattle.std.specs.Io.KnownBytes.{Appends}
@@ -59,3 +59,15 @@ wrote-nothing contents a = record {
   whole = λ f. (f, Appends-nil _);
   part = λ f g. absurd (false≢true (sym f ∙ g));
 }
+
+-- what took a certain text took some text
+pub wrote-some : {W : Type 0} (contents : W → Option (List ℕ)) (a b : Sink W) (x : List ℕ) → Wrote contents a b x → WroteSome contents a b
+wrote-some contents a b x p = (x, p)
+
+-- some text, and then some text
+pub some-more : {W : Type 0} (contents : W → Option (List ℕ)) (a b c : Sink W) → WroteSome contents a b → WroteSome contents b c → WroteSome contents a c
+some-more contents a b c p q = (p.0 ++ q.0, wrote-more contents a b c p.0 q.0 p.1 q.1)
+
+-- a sink that took nothing took some text, the empty one
+pub some-nothing : {W : Type 0} (contents : W → Option (List ℕ)) (a : Sink W) → WroteSome contents a a
+some-nothing contents a = ([], wrote-nothing contents a)
