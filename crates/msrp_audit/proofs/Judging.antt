@@ -1,6 +1,6 @@
 -- What an auditor's tests say of a row: whether it is in its turn, and whether its job is one of its core.
-use Rattle.std.proofs.Common.{◌≡◌, ◌≢◌, ◌+◌, ◌*◌, ◌/◌, ◌%◌, ◌<◌, ◌≤◌, ◌==◌, ◌&&◌, ◌||◌, ◌∷◌, ◌++◌, ◌∙◌}
-use Rattle.msrp_plan.proofs.Common.{ℕ, zero, suc, Bool, true, false, not, cond, nat_lt, List, [], Option, Some, None, refl, ap, sym, subst, arith, length, length-append, map, inl, inr, eq-eqb, eqb-true, slice_get, list_any, flat_map, range_with_len, AllByRecursion, ⊤, option_or, true≢false, or-true, cases_Bool, cases_lt, lt-ltb, le-ltb, false_from_ne_true, eqb-false, All-contains, All-from_recursion, list_any-append, same_Some, PlanModel, core_of, job_at, jobs_of, jobs, jobs_on, same_job, IsLegal, IsRunStart, EachAfter, had_turn, is_in_turn, is_on_core, is_of_core, is_chosen, is_next_action, is_fifo_reply, log_of, IsPlan, broken, refused, fault_in, fault_or, any_in, not_equal, same_is, same_self, jobs_of_are, core_jobs_below, kept_by, on_its_core, due, legal_due, same_res_is, same_choice_is, same_kind_is, turns_when_due, fault_push, fault_stays, unbroken_is_legal, mul-le-mul_left, div-mul-add, mod-mul-add, same_res, same_choice, IfSome, and_parts}
+use Rattle.std.proofs.Common.{◌≡◌, ◌≢◌, ◌+◌, ◌*◌, ◌/◌, ◌<◌, ◌≤◌, ◌==◌, ◌&&◌, ◌||◌, ◌∷◌, ◌++◌, ◌∙◌}
+use Rattle.msrp_plan.proofs.Common.{ℕ, zero, suc, Bool, true, false, not, cond, nat_lt, List, [], Option, Some, None, refl, ap, sym, subst, arith, length, length-append, map, inl, inr, eq-eqb, eqb-true, slice_get, list_any, flat_map, range_with_len, AllByRecursion, ⊤, option_or, true≢false, or-true, cases_Bool, cases_lt, lt-ltb, le-ltb, false_from_ne_true, eqb-false, All-contains, All-from_recursion, list_any-append, same_Some, PlanModel, core_of, job_at, jobs_of, jobs, jobs_on, same_job, IsLegal, IsRunStart, EachAfter, had_turn, is_in_turn, is_on_core, is_of_core, is_chosen, is_next_action, is_fifo_reply, log_of, IsPlan, broken, refused, fault_in, fault_or, any_in, not_equal, same_is, same_self, jobs_of_are, core_jobs_below, kept_by, on_its_core, due, legal_due, same_res_is, same_choice_is, same_kind_is, turns_when_due, fault_push, fault_stays, unbroken_is_legal, mul-le-mul_left, div-mul-add, same_res, same_choice, IfSome, and_parts}
 use Rattle.msrp_plan.specs.declared.ids.JobId.{JobId}
 use Rattle.msrp_plan.specs.declared.faults.Fault.{Fault}
 use Rattle.msrp_plan.specs.declared.faults.Rule.{Rule}
@@ -17,11 +17,10 @@ use Rattle.msrp_plan.proofs.Lists.Members.{in_filter}
 use Rattle.msrp_plan.proofs.Jobs.CoreJobs.{job_on_core}
 use Rattle.msrp_plan.proofs.Runs.CoreRuns.{due_by_log}
 use Rattle.msrp_core.specs.Machine.{MachineModel}
-use Rattle.msrp_sim.specs.Cores.{CoresModel, StandFor, IsDueInRun, IsNextRow, MakesNext, StandOn}
+use Rattle.msrp_sim.specs.Cores.{CoresModel, StandFor, IsDueInRun, IsNextRow, MakesNext, StandOn, IsAs}
 use Rattle.msrp_audit.specs.Audits.{AuditorModel, HasFed, IsDueInAudit, Awaits, answer_of, has_turn, auditor_view, IsAuditorView, place_in}
 use Rattle.msrp_audit.specs.declared.auditor.Auditor.TheInside.{Inside}
 use Rattle.msrp_plan.specs.Kinds.{same_kind}
-use Rattle.msrp_sim.specs.Cores.{IsAs}
 use Rattle.msrp_audit.specs.Foresight.{unlike, does_alike, replied_alike, same_action, same_ahead}
 use Rattle.msrp_audit.proofs.Foresight.{broken_is}
 
@@ -280,9 +279,6 @@ tick_left tick cores place ticks l = elim (cases_lt tick ticks) [
 
 pub place_low : (i : Inside) → IsAuditorView i → place_in i < i.plan.now.cores
 place_low i keeps = let some = keeps.some in let most = keeps.most in omega (arith, some, most)
-
-pub place_now : (i : Inside) (a : AuditorModel) → IsAuditorView i → auditor_view i ≡ a → place_in i ≡ a.fed % a.plan.cores
-place_now i a keeps is = subst (λ (b : AuditorModel). place_in i ≡ b.fed % b.plan.cores) is (sym (mod-mul-add i.tick i.plan.now.cores (place_in i) (place_low i keeps)))
 
 -- the same of an auditor that was fed rows without a fault
 module _ (i : Inside) (a : AuditorModel) (rows : List Row) (keeps : IsAuditorView i) (is : auditor_view i ≡ a) (fed : HasFed a rows) (none : a.fault ≡ None) where

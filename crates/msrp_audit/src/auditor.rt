@@ -137,20 +137,9 @@ impl<'a> Auditor<'a> {
         self.fault.is_none() && self.tick < self.plan.ticks()
     }
 
-    /// Whether the rows of a whole tick come next: no row so far has a fault, and none of the tick that is due has come.
+    // Whether a core of the plan has no row in the tick of the next row yet.
     #[inline(always)]
-    pub fn begins_tick(&self) -> bool
-        ensures good { result ≡ true → self.now.fault ≡ None }
-        ensures left { result ≡ true → self.now.fed + self.now.plan.cores ≤ self.now.plan.cores * self.now.plan.ticks }
-        ensures answer { self.now.fault ≡ None → self.now.fed < self.now.plan.cores * self.now.plan.ticks → self.now.fed % self.now.plan.cores ≡ 0 → result ≡ true }
-    {
-        self.left == self.plan.cores() && self.has_rows_left()
-    }
-
-    /// Whether a core of the plan has its turn in the tick that is due still to come, where it is known that no row so far has a fault and that
-    /// rows are left.
-    #[inline(always)]
-    pub fn is_due_in_tick(&self, core: CoreId) -> bool
+    fn is_due_in_tick(&self, core: CoreId) -> bool
         requires core { core.0 < self.now.plan.cores }
         requires good { self.now.fault ≡ None }
         requires left { self.now.fed < self.now.plan.cores * self.now.plan.ticks }
@@ -170,21 +159,6 @@ impl<'a> Auditor<'a> {
         self.has_rows_left() && self.is_due_in_tick(core)
     }
 
-    /// The core that comes next where the rows of a tick come by the numbers of their cores, if it is due.
-    #[inline(always)]
-    pub fn due_in_order(&self) -> Option<CoreId>
-        ensures due { IfSome result (λ core. IsDueInAudit self.now core.0) }
-        ensures order { IfSome result (λ core. core.0 ≡ self.now.fed % self.now.plan.cores) }
-        ensures answer { (rows : List TraceRow) → HasFed self.now rows → self.now.fault ≡ None → length rows < self.now.plan.cores * self.now.plan.ticks → is_some result ≡ has_turn self.now.plan rows (length rows % self.now.plan.cores) }
-    {
-        let core = CoreId(self.plan.cores() - self.left);
-        if self.has_turn(core) {
-            Some(core)
-        } else {
-            None
-        }
-    }
-
     /// Whether a core may have its turn now: its turn in the tick that is due is still to come. It is false after a fault, and where no rows
     /// are left.
     #[inline(always)]
@@ -196,15 +170,6 @@ impl<'a> Auditor<'a> {
             return false;
         }
         self.has_turn(core)
-    }
-
-    /// Whether [`repeat`](Auditor::repeat) gives the core its turn.
-    #[inline(always)]
-    pub fn repeats(&self, core: CoreId) -> bool
-        requires { IsDueInAudit self.now core.0 }
-        ensures { result ≡ is_some (unless_granted self.now.cores.queues core.0 (known_row self.now.cores core.0)) }
-    {
-        self.cores.repeats(core)
     }
 
     /// The core's turn, where it is known from its last one: its row is that one in the next tick. Elsewhere it is none, and nothing

@@ -143,15 +143,6 @@ impl<'a> Machine<'a> {
         Some(self.jobs.act_again(tick, self.job))
     }
 
-    /// Whether [`Machine::repeat`] makes the core's next turn.
-    #[inline(always)]
-    pub fn repeats(&self) -> bool
-        ensures known { result ≡ is_some self.now.again }
-        ensures res { IfSome self.now.again (λ row. row.res ≡ None) }
-    {
-        self.again > 0
-    }
-
     /// The resource that the core polled in vain in its last turn, where it did. It polls it again in its next one.
     #[inline(always)]
     pub fn polled(&self) -> Option<ResId>

@@ -1,8 +1,7 @@
 -- A core's turn that is known from its last one, and what a turn leaves known.
 use Rattle.std.proofs.Common.{◌≡◌, ◌<◌, ◌∙◌}
-use Rattle.msrp_plan.proofs.Common.{ℕ, Bool, true, false, cond, Option, Some, None, IfSome, IfNone, set, slice_get, slice_set, refl, ap, sym, subst, option_or, set-get_or, get_or_from_slice_get, none-some, in_tick}
+use Rattle.msrp_plan.proofs.Common.{ℕ, Bool, true, false, cond, Option, Some, None, IfSome, IfNone, set, slice_get, slice_set, refl, ap, sym, subst, set-get_or, get_or_from_slice_get, none-some, in_tick}
 use Rattle.msrp_plan.specs.declared.rows.Row.{Row}
-use Rattle.std.specs.Option.{is_some}
 use Rattle.msrp_core.specs.Machine.{MachineModel, next_known}
 use Rattle.msrp_sim.specs.Cores.{CoresModel, AreCores, TakesTurn, Leaves, MakesNext, StandOn, again_of, known_row}
 use Rattle.msrp_sim.specs.TurnPorts.{HasRepeated, is_granted, unless_granted}
@@ -42,11 +41,6 @@ known_by q c (Some s) r e = by_flag (is_granted q c s.res s.kind) e
 pub known_if : (q : Queues) (c : ℕ) (o known : Option Row) → o ≡ unless_granted q c known → IfSome o (λ due. known ≡ Some due)
 known_if q c None known e = tt
 known_if q c (Some r) known e = known_by q c known r (sym e)
-
--- a row that stands again is no poll, so it is known
-pub again_known : (q : Queues) (c : ℕ) (again spin : Option Row) → true ≡ is_some again → IfSome again (λ row. row.res ≡ None) → true ≡ is_some (unless_granted q c (option_or again spin))
-again_known q c None spin e res = absurd (cc)
-again_known q c (Some r) spin e res = sym (ap (λ g. is_some (cond (is_granted q c g r.kind) None (Some r))) res)
 
 -- ---- a machine that makes its last row again, if it is known that it does
 -- the cores then

@@ -149,15 +149,6 @@ impl<'a> Cores<'a> {
         Some(answered(&self.queues, row))
     }
 
-    /// Whether [`Cores::repeat`] makes the core's next turn.
-    #[inline(always)]
-    pub fn repeats(&self, core: CoreId) -> bool
-        requires { core.0 < self.now.plan.cores }
-        ensures { result ≡ is_some (unless_granted self.now.queues core.0 (known_row self.now core.0)) }
-    {
-        repeats_by(&self.queues, &self.machines[core.0 as usize])
-    }
-
     /// The core's next turn, where it is known from its last one: its row is that one in the next tick. That takes no choice,
     /// and a queue is asked only where the core polled in vain: it does so again, unless its poll is granted. Elsewhere it is none,
     /// and nothing changes.

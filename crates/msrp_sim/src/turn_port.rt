@@ -144,20 +144,6 @@ pub(crate) fn repeat_by(queues: &Queues, machine: &mut Machine<'_>) -> Option<Ro
     }
 }
 
-// Whether the machine's turn is known so.
-#[inline(always)]
-pub(crate) fn repeats_by(queues: &Queues, machine: &Machine<'_>) -> bool
-    ensures { result ≡ is_some (unless_granted queues.now machine.now.core (next_known machine.now)) }
-{
-    if machine.repeats() {
-        return true;
-    }
-    match machine.polled() {
-        Some(res) => !queues.grants(machine.core(), res),
-        None => false,
-    }
-}
-
 // The machine's turn, where a global resource answers as its queue stands.
 #[inline(always)]
 pub(crate) fn turn_by(queues: &Queues, resources: u32, machine: &mut Machine<'_>) -> Turned

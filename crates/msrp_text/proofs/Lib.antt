@@ -2,7 +2,6 @@ pub mod Remaining
 pub mod PlainLines
 pub mod AheadBytes
 pub mod LineEnds
-pub mod ManyLines
 pub mod Fronts
 pub mod Chunks
 pub mod FirstFields

@@ -1,10 +1,10 @@
 -- Plain lines, whose fields stand between commas.
-use Rattle.msrp_plan.specs.Common.{ℕ, Bool, true, false, not, List, [], length, take, Option, is_ascii_digit, flat_map, list_any}
+use Rattle.msrp_plan.specs.Common.{ℕ, Bool, true, false, not, List, [], length, take, Option, is_ascii_digit, list_any}
 use Rattle.std.specs.Prelude.{◌≡◌, ◌⊎◌, ◌≤◌, ◌<◌, ◌∷◌, ◌++◌, ◌==◌, ◌&&◌, ◌||◌, if◌then◌else◌, MatchOption}
 use Rattle.msrp_text.specs.declared.front.Front.{Front}
-use Rattle.msrp_text.specs.declared.front.Front.TheVariants as front
 use Rattle.msrp_text.specs.declared.front.PlainLine.{PlainLine}
 use Rattle.msrp_text.specs.declared.front.TheConstants.{LONGEST}
+use Rattle.msrp_text.specs.declared.front.Front.TheVariants as front
 
 -- a quote, a carriage return or a line feed
 abbrev pub is_mark : ℕ → Bool
@@ -27,10 +27,6 @@ split_commas line = split_from [] line
 -- a text is a line and its end: a line feed, a carriage return, or both
 abbrev pub EndsLine : List ℕ → List ℕ → Type 0
 EndsLine line text = (text ≡ line ++ (10 ∷ [])) ⊎ (text ≡ line ++ (13 ∷ [])) ⊎ (text ≡ line ++ (13 ∷ 10 ∷ []))
-
--- the text of some lines, each with a line feed behind it
-abbrev pub lines_text : List (List ℕ) → List ℕ
-lines_text lines = flat_map (λ line. line ++ (10 ∷ [])) lines
 
 -- a plain line stands at the front of a text, and these are its fields
 pub record IsFront (text : List ℕ) (line : PlainLine) (row : List (List ℕ)) : Type 0 where

@@ -3,13 +3,13 @@ use Rattle.std.specs.Prelude.{◌≡◌, ◌+◌, ◌++◌, ◌∷◌, if◌then
 use Rattle.msrp_plan.specs.Common.{ℕ, Bool, true, false, List, [], length, Option, Some, None, option_map}
 use Rattle.csv.specs.Reading.{default_config, records, reader_source, records_from, source_of, strip_bom, reader_state}
 use Rattle.csv.specs.declared.parser.State.{State}
-use Rattle.csv.specs.declared.parser.State.TheVariants as st
 use Rattle.msrp_text.specs.Ahead.{has_failed, lines_ahead, unread}
 use Rattle.msrp_text.specs.declared.csv_records.CsvRecords.{CsvRecords}
 use Rattle.msrp_text.specs.declared.lines.Lines.{Lines}
 use Rattle.msrp_text.specs.declared.records.RecordReader.{RecordReader}
 use Rattle.msrp_text.specs.declared.records.Stopped.{Stopped}
 use Rattle.msrp_text.specs.declared.records.Way.{Way}
+use Rattle.csv.specs.declared.parser.State.TheVariants as st
 use Rattle.msrp_text.specs.declared.records.Way.TheVariants as way
 
 -- the records of a text: a byte order mark at its start is no part of it
@@ -100,10 +100,6 @@ GivesNext (r ∷ rest) found row after = (found ≡ true) × (row ≡ r) × (aft
 -- the next of the records that were left, where those are known, is of these fields, and those after it are left
 abbrev pub GivesLine : Option (List (List (List ℕ))) → List (List ℕ) → Option (List (List (List ℕ))) → Type 0
 GivesLine old fields new = (left : List (List (List ℕ))) → old ≡ Some left → GivesNext left true fields new
-
--- the next of the records that were left, where those are known, are these, and those after them are left
-abbrev pub GivesLines : Option (List (List (List ℕ))) → List (List (List ℕ)) → Option (List (List (List ℕ))) → Type 0
-GivesLines old rows new = (left : List (List (List ℕ))) → old ≡ Some left → (rest : List (List (List ℕ))) × (left ≡ rows ++ rest) × (new ≡ Some rest)
 
 -- the records that were left, where those are known, are left still
 abbrev pub KeepsRecords : Option (List (List (List ℕ))) → Option (List (List (List ℕ))) → Type 0

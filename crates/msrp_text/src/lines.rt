@@ -6,7 +6,7 @@ ghost use Rattle.msrp_text.specs.declared.lines.TheConstants.{ROOM};
 ghost use Rattle.std.specs.Io.{ReadsAtMost};
 ghost use Rattle.std.specs.Io.KnownBytes.{IsAtEnd, Keeps, ReadConsumes};
 ghost use Rattle.csv.specs.Records.{fields_of};
-ghost use Rattle.msrp_text.specs.Plain.{EndsLine, IsPeeked, NoLine, is_plain, lines_text, split_commas};
+ghost use Rattle.msrp_text.specs.Plain.{EndsLine, IsPeeked, NoLine, is_plain, split_commas};
 
 use crate::breaks::{begins_record, counted, is_break};
 use crate::csv_records::CsvRecords;
@@ -41,7 +41,7 @@ pub(crate) struct Lines<R> {
 impl<R: Read> Lines<R> {
     ghost use Rattle.msrp_text.specs.Ahead.{buffered, has_failed, lines_ahead, unread};
     ghost use Rattle.msrp_text.specs.Lines.{BeginsIn, HasTaken, byte_before, ends_line};
-    ghost use Rattle.msrp_text.specs.Records.{GivesLine, GivesLines, HasNone, KeepsRecords, csv_left, records_ahead};
+    ghost use Rattle.msrp_text.specs.Records.{GivesLine, HasNone, KeepsRecords, csv_left, records_ahead};
 
     /// The bytes that a reader has left.
     pub(crate) fn new(source: R) -> Lines<R>
@@ -81,9 +81,6 @@ impl<R: Read> Lines<R> {
         ensures gives { (line : List ℕ) → EndsLine line (take count (lines_ahead self.old)) → is_plain line ≡ true → GivesLine (records_ahead R.remaining self.old) (split_commas line) (records_ahead R.remaining self.new) }
         ensures taken { (line bytes : List ℕ) (number : ℕ) → EndsLine line (take count (lines_ahead self.old)) → is_plain line ≡ true → HasTaken R.remaining bytes number self.old → HasTaken R.remaining bytes (number + 1) self.new }
         ensures begins { (line bytes : List ℕ) (number empty : ℕ) → EndsLine line (take count (lines_ahead self.old)) → is_plain line ≡ true → HasTaken R.remaining bytes number self.old → self.new.passed ≡ Some empty → BeginsIn bytes (number + 1) (number + 1 + empty) }
-        ensures all { (lines : List (List ℕ)) → take count (lines_ahead self.old) ≡ lines_text lines → list_all is_plain lines ≡ true → GivesLines (records_ahead R.remaining self.old) (map split_commas lines) (records_ahead R.remaining self.new) }
-        ensures all_taken { (lines : List (List ℕ)) (bytes : List ℕ) (number : ℕ) → take count (lines_ahead self.old) ≡ lines_text lines → list_all is_plain lines ≡ true → HasTaken R.remaining bytes number self.old → HasTaken R.remaining bytes (number + length lines) self.new }
-        ensures last_begins { (lines : List (List ℕ)) (bytes : List ℕ) (number empty : ℕ) → take count (lines_ahead self.old) ≡ lines_text lines → list_all is_plain lines ≡ true → HasTaken R.remaining bytes number self.old → self.new.passed ≡ Some empty → BeginsIn bytes (number + length lines) (number + length lines + empty) }
     {
         self.at += count;
         self.begun = true;

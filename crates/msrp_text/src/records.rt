@@ -7,8 +7,8 @@ ghost use Rattle.msrp_text.specs.declared.front.TheConstants.{LONGEST};
 ghost use Rattle.msrp_text.specs.declared.lines.TheConstants.{ROOM};
 ghost use Rattle.std.specs.Io.KnownBytes.{Keeps};
 ghost use Rattle.msrp_text.specs.Lines.{BeginsIn, HasRead, HasTakenBy, empty_at, empty_before};
-ghost use Rattle.msrp_text.specs.Plain.{BeginsWith, BeginsWithDigit, EndsLine, IsPeeked, NoLine, is_plain, is_plain_field, lines_text, split_commas};
-ghost use Rattle.msrp_text.specs.Records.{FirstBegins, GivesLine, GivesLines, GivesNext, HasNone, KeepsRecords, bytes_ahead, bytes_left, csv_records, is_csv, left_at, read_failed, reader_under, reads_csv, records_left, stop_at, stop_of};
+ghost use Rattle.msrp_text.specs.Plain.{BeginsWith, BeginsWithDigit, EndsLine, IsPeeked, NoLine, is_plain, is_plain_field, split_commas};
+ghost use Rattle.msrp_text.specs.Records.{FirstBegins, GivesLine, GivesNext, HasNone, KeepsRecords, bytes_ahead, bytes_left, csv_records, is_csv, left_at, read_failed, reader_under, reads_csv, records_left, stop_at, stop_of};
 
 use crate::csv_records::CsvRecords;
 use crate::front::{
@@ -186,28 +186,6 @@ impl<R: Read> RecordReader<R> {
         }
     }
 
-    /// Whether the text goes on with this text of some lines, each with a line feed behind it. Where it does, those lines are taken; else nothing is. Where
-    /// too few bytes were read ahead, more are read, as long as those that are ahead begin the text; lines of more bytes than are read ahead at once may not be met.
-    #[inline(always)]
-    pub fn meets_lines(&mut self, text: &[u8]) -> bool
-        ensures taken { result ≡ true → (lines : List (List ℕ)) → text.now ≡ lines_text lines → list_all is_plain lines ≡ true → GivesLines (records_left R.remaining self.old) (map split_commas lines) (records_left R.remaining self.new) }
-        ensures kept { result ≡ false → KeepsRecords (records_left R.remaining self.old) (records_left R.remaining self.new) }
-        ensures stop { stop_of self.new ≡ stop_of self.old }
-        ensures line { result ≡ true → (lines : List (List ℕ)) → text.now ≡ lines_text lines → list_all is_plain lines ≡ true → (bytes : List ℕ) (number : ℕ) → HasRead R.remaining bytes number self.old → HasRead R.remaining bytes (number + length lines) self.new }
-        ensures still { result ≡ false → (bytes : List ℕ) (number : ℕ) → HasRead R.remaining bytes number self.old → HasRead R.remaining bytes number self.new }
-        ensures ended { result ≡ true → (rest : List ℕ) × (text.now ≡ rest ++ codes "\n") }
-        ensures begins { result ≡ true → (bytes : List ℕ) → bytes_left R.remaining self.old ≡ Some bytes → (after : List ℕ) × (bytes ≡ text.now ++ after) }
-        ensures grows { result ≡ false → (more : List ℕ) × (bytes_ahead self.new ≡ bytes_ahead self.old ++ more) }
-        ensures ahead { (rest after : List ℕ) → text.now ≡ rest ++ codes "\n" → bytes_ahead self.old ≡ text.now ++ after → result ≡ true }
-    {
-        self.read_to(text);
-        if !ends_line(text) || !self.ahead().starts_with(text) {
-            return false;
-        }
-        self.take_lines(text.len());
-        true
-    }
-
     /// The second field of the next record, where it is one digit, the first field is that text, and both stand as they are at the front
     /// of what was read ahead; else none, and nothing is known. More is read first, as in [`RecordReader::meets`].
     #[inline(always)]
@@ -254,35 +232,6 @@ impl<R: Read> RecordReader<R> {
         {}
     }
 
-    // Sees to it that as many bytes are ahead as that text has, or all that come, or as many as there is room for, as long as those that are ahead begin it.
-    #[inline(always)]
-    fn read_to(&mut self, text: &[u8])
-        ensures same { KeepsRecords (records_left R.remaining self.old) (records_left R.remaining self.new) }
-        ensures bytes { Keeps (bytes_left R.remaining self.old) (bytes_left R.remaining self.new) }
-        ensures stop { stop_of self.new ≡ stop_of self.old }
-        ensures still { (bytes : List ℕ) (number : ℕ) → HasRead R.remaining bytes number self.old → HasRead R.remaining bytes number self.new }
-        ensures grows { (more : List ℕ) × (bytes_ahead self.new ≡ bytes_ahead self.old ++ more) }
-    {
-        if self.ahead().len() < text.len() {
-            self.read_more(text);
-        }
-    }
-
-    // Reads more for that text, as long as the bytes that are ahead begin it.
-    #[inline(never)]
-    fn read_more(&mut self, text: &[u8])
-        ensures same { KeepsRecords (records_left R.remaining self.old) (records_left R.remaining self.new) }
-        ensures bytes { Keeps (bytes_left R.remaining self.old) (bytes_left R.remaining self.new) }
-        ensures stop { stop_of self.new ≡ stop_of self.old }
-        ensures still { (bytes : List ℕ) (number : ℕ) → HasRead R.remaining bytes number self.old → HasRead R.remaining bytes number self.new }
-        ensures grows { (more : List ℕ) × (bytes_ahead self.new ≡ bytes_ahead self.old ++ more) }
-    {
-        while self.ahead().len() < text.len()
-            && text.starts_with(self.ahead())
-            && self.read_ahead()
-        {}
-    }
-
     // Reads more of the text ahead, and whether that gave a byte. Once `csv` reads it gives none.
     fn read_ahead(&mut self) -> bool
         ensures same { KeepsRecords (records_left R.remaining self.old) (records_left R.remaining self.new) }
@@ -308,22 +257,6 @@ impl<R: Read> RecordReader<R> {
         ensures stop { stop_of self.new ≡ stop_of self.old }
         ensures way { reads_csv self.new ≡ reads_csv self.old }
         ensures line { (line bytes : List ℕ) (number : ℕ) → EndsLine line (take count (bytes_ahead self.old)) → is_plain line ≡ true → HasTakenBy R.remaining bytes number self.old.way → HasRead R.remaining bytes (number + 1) self.new }
-    {
-        match &mut self.way {
-            Way::Lines(lines) => lines.take(count),
-            // No byte is ahead.
-            Way::Csv(_) => unreachable!(),
-        }
-    }
-
-    // Takes so many of the bytes that were read ahead: plain lines, each with a line feed behind it. Their fields were the next records.
-    #[inline]
-    fn take_lines(&mut self, count: usize)
-        requires count { count ≤ length (bytes_ahead self.old) }
-        requires some { 0 < count }
-        ensures next { (lines : List (List ℕ)) → take count (bytes_ahead self.old) ≡ lines_text lines → list_all is_plain lines ≡ true → GivesLines (records_left R.remaining self.old) (map split_commas lines) (records_left R.remaining self.new) }
-        ensures stop { stop_of self.new ≡ stop_of self.old }
-        ensures line { (lines : List (List ℕ)) (bytes : List ℕ) (number : ℕ) → take count (bytes_ahead self.old) ≡ lines_text lines → list_all is_plain lines ≡ true → HasTakenBy R.remaining bytes number self.old.way → HasRead R.remaining bytes (number + length lines) self.new }
     {
         match &mut self.way {
             Way::Lines(lines) => lines.take(count),

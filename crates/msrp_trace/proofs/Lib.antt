@@ -13,4 +13,3 @@ pub mod ReadThrough
 pub mod Counting
 pub mod Standing
 pub mod Lining
-pub mod TickRows

@@ -1,5 +1,5 @@
 -- What a reader of rows has left, and what each call gives.
-use Rattle.msrp_plan.specs.Common.{codes, decimal, ℕ, Bool, true, false, List, [], Option, Some, None, Ok, Err, option_map, IsSome, IsOkAnd, ⊤, drop, length, slice_get, source_remaining, PlanModel}
+use Rattle.msrp_plan.specs.Common.{codes, decimal, ℕ, Bool, true, false, List, [], Option, Some, None, Ok, Err, option_map, IsSome, IsOkAnd, ⊤, drop, source_remaining, PlanModel}
 use Rattle.msrp_plan.specs.declared.bytes.Source.{Source}
 use Rattle.msrp_plan.specs.declared.ids.CoreId.{CoreId}
 use Rattle.msrp_plan.specs.declared.rows.Row.{Row}
@@ -110,15 +110,6 @@ pub record IsTextOf {R : Type 0} (t : TraceReader R) (texts : TextsModel) (n cor
   pub tick : r.tick ≡ n
   pub whole : is_told_whole t.version t.plan.now r ≡ true
   pub text : text_of_core texts core ≡ after_tick t.version t.plan.now r
-
--- in that tick the texts of all cores of the plan, by their numbers, are those of these rows
-pub record AreTextsOfTick {R : Type 0} (t : TraceReader R) (texts : TextsModel) (n : ℕ) (rows : List Row) : Type 0 where
-  pub size : length rows ≡ t.plan.now.cores
-  pub each : (c : ℕ) (r : Row) → slice_get rows c ≡ Some r → IsTextOf t texts n c r
-
--- the next rows are these, and the rest is left
-abbrev pub GivesRows : List Row → Told → Option Told → Type 0
-GivesRows rows told after = (rest : List Row) × (told.rows ≡ rows ++ rest) × (after ≡ Some (record { rows = rest; refusal = told.refusal }))
 
 -- the bytes that were read ahead begin with the text of the tick, which is kept, and a further row may come
 pub record IsAtTick {R : Type 0} (n : ℕ) (t : TraceReader R) : Type 0 where

@@ -20,17 +20,12 @@ use msrp_plan::limits::MOST_CORES;
 use msrp_plan::{CoreId, Kind, Plan, Row, TextVersion};
 use std::array;
 
-// The records of a tick have no more bytes: one of each core, that of the tick before its line.
-const PAGE: usize = MOST_CORES as usize * (NUMBER + LINE);
-
 /// The texts of the rows that were foreseen last: that of the tick, and for each core what stands after it.
 #[derive(Drop)]
 pub(crate) struct Foreseen {
     tick: Tick,
     lines: [RowLine; MOST_CORES as usize],
     res: ResTexts,
-    // The records of all cores in a tick, one after the other, as they were gathered last.
-    page: Text<PAGE>,
 }
 
 // Whether a core may make such a row twice in a run: it idles, works or waits.
@@ -49,26 +44,6 @@ fn differs_at(text: &[u8], other: &[u8], place: usize) -> bool
     place < text.len() && place < other.len() && text[place] != other[place]
 }
 
-// Lays the texts of the cores' rows one after the other, each behind that of the tick, as far as each core has one.
-#[inline(always)]
-fn lay_tick(page: &mut Text<PAGE>, tick: &Text<NUMBER>, lines: &[CoreText]) -> bool
-    requires { length lines.now ≤ 8 }
-    ensures page { result ≡ true → page.new ≡ flat_map (λ text. tick.now ++ text) (texts_of lines.now) }
-    ensures some { result ≡ true → (c : ℕ) → c < length lines.now → ¬ (slice_index_or (texts_of lines.now) c [] ≡ []) }
-    ensures finds { ((c : ℕ) → c < length lines.now → ¬ (slice_index_or (texts_of lines.now) c [] ≡ [])) → result ≡ true }
-{
-    page.clear();
-    for kept in lines {
-        let text = kept.text();
-        if text.len() == 0 {
-            return false;
-        }
-        page.add_text(tick);
-        page.add_text(text);
-    }
-    true
-}
-
 impl Foreseen {
     ghost use Rattle.msrp_trace.specs.Foreseen.{AreTexts, AreTextsOf};
 
@@ -80,7 +55,6 @@ impl Foreseen {
             tick: Tick::new(),
             lines: array::from_fn(|_| RowLine::new()),
             res: ResTexts::new(),
-            page: Text::new(),
         }
     }
 
@@ -128,30 +102,6 @@ impl Foreseen {
         ensures tick { self.new.tick.tick ≡ tick }
     {
         self.tick.show(tick);
-    }
-
-    /// Turns to a tick, and gathers the records of so many cores in it, by the texts that are kept of their rows. It is false where no text is
-    /// kept of one of them; nothing is known of what was gathered then.
-    #[inline(always)]
-    pub(crate) fn gather(&mut self, tick: u32, texts: &RowTexts<'_>, cores: u32) -> bool
-        requires { cores ≤ 8 }
-        ensures texts { (version : TextVersion) (plan : PlanModel) → AreTexts version plan self.old → AreTexts version plan self.new }
-        ensures page { result ≡ true → self.new.page ≡ flat_map (λ text. decimal tick ++ text) (take cores texts.now.texts) }
-        ensures kept { cores ≤ length texts.now.texts }
-        ensures some { result ≡ true → (c : ℕ) → c < cores → ¬ (text_of_core texts.now c ≡ []) }
-        ensures finds { ((c : ℕ) → c < cores → ¬ (text_of_core texts.now c ≡ [])) → result ≡ true }
-    {
-        self.to_tick(tick);
-        let lines = first_lines(&texts.lines, cores as usize);
-        lay_tick(&mut self.page, self.tick.text(), lines)
-    }
-
-    /// The records that were gathered last.
-    #[inline(always)]
-    pub(crate) fn gathered(&self) -> &[u8]
-        ensures { result.now ≡ self.now.page }
-    {
-        self.page.as_bytes()
     }
 
     /// The row whose text is kept at the core's place, in the tick that is here.

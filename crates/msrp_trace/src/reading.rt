@@ -142,7 +142,7 @@ fn numbered_row(
 }
 
 impl<'a, R: Read> TraceReader<'a, R> {
-    ghost use Rattle.msrp_trace.specs.Readers.{AreTextsOfTick, BeginsAt, CanMeet, ComesNext, GivesFirstOr, GivesNext, GivesRows, HasReadBehind, HasReadIn, HasReadTo, HoldsUnlessFailed, IsAtTick, IsOfTrace, IsRecordOf, IsTextOf, Opens, StandsBehind, StandsIn, ahead_failed, error_of, has_failed, record_read, source_of, told_left};
+    ghost use Rattle.msrp_trace.specs.Readers.{BeginsAt, CanMeet, ComesNext, GivesFirstOr, GivesNext, HasReadBehind, HasReadIn, HasReadTo, HoldsUnlessFailed, IsAtTick, IsOfTrace, IsRecordOf, IsTextOf, Opens, StandsBehind, StandsIn, ahead_failed, error_of, has_failed, record_read, source_of, told_left};
 
     /// The rows of all that a source has left, for a trace of the plan. R1 is refused here.
     #[inline(always)]
@@ -310,39 +310,6 @@ impl<'a, R: Read> TraceReader<'a, R> {
         }
     }
 
-    /// Whether the next row is one of the core in that tick, with the text that is kept of it. Where no text is kept it isn't met.
-    #[inline(always)]
-    pub fn comes(&mut self, tick: u32, texts: &RowTexts<'_>, core: CoreId) -> bool
-        ensures some { result ≡ true → ¬ (text_of_core texts.now core.0 ≡ []) }
-        ensures taken { result ≡ true → (row : Row) (told : Told) → IsTextOf self.old texts.now tick core.0 row → told_left R.remaining self.old ≡ Some told → GivesNext told (Ok (Some row)) (told_left R.remaining self.new) }
-        ensures kept { result ≡ false → (told : Told) → told_left R.remaining self.old ≡ Some told → told_left R.remaining self.new ≡ Some told }
-        ensures same { has_failed self.new ≡ has_failed self.old }
-        ensures going { result ≡ true → has_failed self.old ≡ false }
-        ensures here { result ≡ false → IsAtTick tick self.old → IsAtTick tick self.new }
-        ensures trace { IsOfTrace self.old self.new }
-        ensures finds { (row : Row) → IsTextOf self.old texts.now tick core.0 row → self.old.state ≡ ReaderState.Rows → CanMeet self.old row → result ≡ true }
-        ensures stands { (row : Row) (records : List (List (List ℕ))) → IsTextOf self.old texts.now tick core.0 row → StandsIn R.remaining records self.old → StandsIn R.remaining records self.new }
-        ensures still { result ≡ false → (records : List (List (List ℕ))) → StandsIn R.remaining records self.old → StandsIn R.remaining records self.new }
-        ensures lines { (row : Row) (text : List ℕ) → IsTextOf self.old texts.now tick core.0 row → HasReadIn R.remaining text self.old → HasReadIn R.remaining text self.new }
-        ensures lines_still { result ≡ false → (text : List ℕ) → HasReadIn R.remaining text self.old → HasReadIn R.remaining text self.new }
-    {
-        let ReaderState::Rows = self.state else {
-            return false;
-        };
-        if self.number == u32::MAX {
-            return false;
-        }
-        // Read so that the plan is known to be an accepted one.
-        let _accepted = self.plan.tasks();
-        self.foreseen.to_tick(tick);
-        let line = text_of(&texts.lines, (core.0 % MOST_CORES) as usize);
-        let met = self.records.meets(self.foreseen.tick(), line.as_bytes());
-        if met {
-            self.number += 1;
-        }
-        met
-    }
-
     /// Whether the next row is one of the core in that tick, with the text that is kept of it, where [`TraceReader::core_ahead`] has told a core in
     /// that tick: the text of the tick isn't compared again, and no more is read. Where no text is kept it isn't met.
     #[inline(always)]
@@ -373,39 +340,6 @@ impl<'a, R: Read> TraceReader<'a, R> {
             self.number = after;
         }
         met
-    }
-
-    /// Whether the next rows are those of all cores of the plan in that tick, by the numbers of the cores, with the texts that are kept of them. Where they
-    /// are, they are taken, and else none is. Where no text is kept of a core they aren't met.
-    #[inline(always)]
-    pub fn tick_comes(&mut self, tick: u32, texts: &RowTexts<'_>) -> bool
-        ensures some { result ≡ true → (c : ℕ) → c < self.old.plan.now.cores → ¬ (text_of_core texts.now c ≡ []) }
-        ensures taken { result ≡ true → (rows : List Row) (told : Told) → AreTextsOfTick self.old texts.now tick rows → told_left R.remaining self.old ≡ Some told → GivesRows rows told (told_left R.remaining self.new) }
-        ensures kept { result ≡ false → (told : Told) → told_left R.remaining self.old ≡ Some told → told_left R.remaining self.new ≡ Some told }
-        ensures same { has_failed self.new ≡ has_failed self.old }
-        ensures going { result ≡ true → has_failed self.old ≡ false }
-        ensures trace { IsOfTrace self.old self.new }
-        ensures stands { (rows : List Row) (records : List (List (List ℕ))) → AreTextsOfTick self.old texts.now tick rows → StandsIn R.remaining records self.old → StandsIn R.remaining records self.new }
-        ensures still { result ≡ false → (records : List (List (List ℕ))) → StandsIn R.remaining records self.old → StandsIn R.remaining records self.new }
-        ensures lines { (rows : List Row) (text : List ℕ) → AreTextsOfTick self.old texts.now tick rows → HasReadIn R.remaining text self.old → HasReadIn R.remaining text self.new }
-        ensures lines_still { result ≡ false → (text : List ℕ) → HasReadIn R.remaining text self.old → HasReadIn R.remaining text self.new }
-        ensures finds { (rows : List Row) (after : List ℕ) → AreTextsOfTick self.old texts.now tick rows → self.old.state ≡ ReaderState.Rows → self.old.number + self.old.plan.now.cores < 2 ^ 32 → bytes_ahead self.old.records ≡ flat_map (row_text self.old.version self.old.plan.now) rows ++ after → result ≡ true }
-    {
-        let ReaderState::Rows = self.state else {
-            return false;
-        };
-        let cores = self.plan.cores();
-        let Some(after) = self.number.checked_add(cores) else {
-            return false;
-        };
-        if !self.foreseen.gather(tick, texts, cores) {
-            return false;
-        }
-        if !self.records.meets_lines(self.foreseen.gathered()) {
-            return false;
-        }
-        self.number = after;
-        true
     }
 
     /// The core of the next row, where its text begins with this tick and a core of one digit, as rows are written; else none, and nothing

@@ -68,16 +68,6 @@ pub(crate) fn text_of(lines: &[CoreText], core: usize) -> &Text<LINE>
     lines[core].text()
 }
 
-/// The first so many cores, with what stands in their records after the tick.
-#[inline(always)]
-pub(crate) fn first_lines(lines: &[CoreText], cores: usize) -> &[CoreText]
-    requires { cores ≤ length lines.now }
-    ensures texts { texts_of result.now ≡ take cores (texts_of lines.now) }
-    ensures size { length result.now ≡ cores }
-{
-    &lines[..cores]
-}
-
 impl<'a> RowTexts<'a> {
     /// No row of any core yet.
     pub fn new(plan: &'a Plan, version: TextVersion) -> RowTexts<'a>

@@ -1,8 +1,6 @@
 use Rattle.msrp_plan.proofs.Common.{refl, take}
 use Rattle.msrp_text.proofs.AheadBytes.{taken-bytes}
 use Rattle.msrp_text.proofs.LineEnds.{line-in, line-taken, taken-last}
-use Rattle.msrp_text.specs.Ahead.{lines_ahead}
-use Rattle.msrp_text.proofs.ManyLines.{lines-in, lines-some, lines-taken, taken-lines}
 use Rattle.msrp_text.proofs.PlainLines.{taken-line}
 use Rattle.msrp_text.proofs.lines.Lines.take.Goals as goal
 
@@ -21,22 +19,3 @@ pub returns-clause-begins : goal.returns-clause-begins
 returns-clause-begins g c = λ line bytes number empty ended plain is passed.
     let old = c.args.self.now in
     line-in g.R.Read.remaining old _ line _ bytes number empty (taken-bytes (g.R.Read.remaining old.source) (take old.end old.buffer) old.at c.args.count) ended plain passed is
-
-pub returns-clause-all : goal.returns-clause-all
-returns-clause-all g c = λ lines is plain left known.
-    let old = c.args.self.now in
-    let some = lines-some (lines_ahead old) c.args.count lines c.requires.some c.requires.count is in
-    taken-lines old.begun _ _ lines _ (taken-bytes (g.R.Read.remaining old.source) (take old.end old.buffer) old.at c.args.count) is some plain left known
-
-pub returns-clause-all_taken : goal.returns-clause-all_taken
-returns-clause-all_taken g c = λ lines bytes number is plain taken.
-    let old = c.args.self.now in
-    let some = lines-some (lines_ahead old) c.args.count lines c.requires.some c.requires.count is in
-    lines-taken g.R.Read.remaining old _ lines _ _ bytes number (taken-bytes (g.R.Read.remaining old.source) (take old.end old.buffer) old.at c.args.count) is some plain refl refl
-    (taken-last old.buffer old.at old.end c.args.count c.requires.some c.requires.count old.within) taken
-
-pub returns-clause-last_begins : goal.returns-clause-last_begins
-returns-clause-last_begins g c = λ lines bytes number empty is plain taken passed.
-    let old = c.args.self.now in
-    let some = lines-some (lines_ahead old) c.args.count lines c.requires.some c.requires.count is in
-    lines-in g.R.Read.remaining old _ lines _ bytes number empty (taken-bytes (g.R.Read.remaining old.source) (take old.end old.buffer) old.at c.args.count) is some plain passed taken
