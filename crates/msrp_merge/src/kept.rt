@@ -1,6 +1,6 @@
 //! A turn as a log keeps it, in as few bytes as it needs.
-ghost use Rattle.std.specs.Prelude.{◌≡◌, ◌≤◌};
-ghost use Rattle.msrp_plan.specs.Common.{vec_capacity, ahead_of_kind, job_of_kind, res_of_kind};
+ghost use Rattle.std.specs.Prelude.{◌≡◌};
+ghost use Rattle.msrp_plan.specs.Common.{ahead_of_kind, job_of_kind, res_of_kind};
 ghost use Rattle.msrp_merge.specs.Keeping.{place_of_touch, turn_of};
 
 use crate::logs::{Place, Turn};
@@ -36,29 +36,6 @@ const NO_JOB: JobId = JobId {
 };
 
 const NO_RES: ResId = ResId(0);
-
-const BLANK: Kept = Kept {
-    kind: Kind::Idle,
-    touch: Touch::Nothing,
-    carries: false,
-    job: NO_JOB,
-    res: NO_RES,
-    ahead: 0,
-    number: 0,
-};
-
-/// Writes once to the memory of so many turns, but for those that are there.
-pub(crate) fn prefault(kept: &mut Vec<Kept>, many: usize)
-    requires { many ≤ vec_capacity kept.old }
-    ensures items { kept.new.items ≡ kept.old.items }
-    ensures room { vec_capacity kept.new ≡ vec_capacity kept.old }
-{
-    let len = kept.len();
-    for _turn in len..many {
-        kept.push_reserved(BLANK);
-    }
-    kept.truncate(len);
-}
 
 // How a turn with this place touched its resource, and the number of the place.
 fn touch_of(place: Option<Place>) -> (Touch, u32)

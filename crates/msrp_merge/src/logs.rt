@@ -3,7 +3,7 @@ ghost use Rattle.std.specs.Prelude.{◌≡◌, ◌<◌, ◌++◌, ◌∷◌};
 ghost use Rattle.msrp_plan.specs.Common.{[], length, slice_index_or, IfOk};
 ghost use Rattle.msrp_merge.specs.declared.logs.Turn.{Turn as TurnAt};
 
-use crate::kept::{Kept, prefault};
+use crate::kept::Kept;
 use msrp_plan::{CoreId, Memory, Row};
 use std::alloc::Global;
 use std::marker::Model;
@@ -52,13 +52,6 @@ impl CoreLog {
     {
         let kept = Vec::with_capacity(alloc, ticks as usize)?;
         Ok(CoreLog { core, ticks, kept })
-    }
-
-    /// Writes once to the memory of the turns that are to come: so no tick waits for a page of it that wasn't touched before.
-    pub fn prefault(&mut self)
-        ensures { self.new ≡ self.old }
-    {
-        prefault(&mut self.kept, self.ticks as usize);
     }
 
     /// Adds the core's turn of the next tick. It takes no memory.

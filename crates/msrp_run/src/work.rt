@@ -107,7 +107,6 @@ pub fn worker<R: Wait, S: Stage>(
     requires { IsNew board.now machine log seat }
     ensures { HasWorked board.now machine.entry.plan machine.entry.core result.0 result.1 }
 {
-    log.prefault();
     let mut waiting = Waiting::new();
     for _ in rt.forever() {
         let (came, back) = round(&mut machine, &mut log, board, seat, stage);
