@@ -1,10 +1,4 @@
-pub mod Choosing
-pub mod Places
 pub mod Records
-pub mod Nested
 pub mod Earlier
-pub mod Lines
-pub mod Sentences
-pub mod Shown
-pub mod Refusals
+pub mod Nested
 pub mod Warnings

@@ -1,23 +1,29 @@
--- What a record of a plan is, beside others.
-use Rattle.std.specs.Prelude.{◌&&◌, ◌+◌}
+-- What a record of a plan is, and what it shares with another. A record is the list of its fields.
+use Rattle.std.specs.Prelude.{◌&&◌, ◌+◌, ◌||◌}
 use Rattle.msrp_plan.specs.Common.{ℕ, Bool, not, List, codes, drop, list_any}
 use Rattle.msrp_text.specs.Fields.{has_word, name_at}
 use Rattle.msrp_text.specs.Reading.{record_at}
 
-abbrev pub is_resource : List (List ℕ) → Bool
-is_resource fields = has_word fields 0 (codes "resource")
+-- it begins a task
+abbrev pub is_task : List (List ℕ) → Bool
+is_task fields = has_word fields 0 (codes "task") || has_word fields 0 (codes "listed")
 
-abbrev pub is_lock : List (List ℕ) → Bool
-is_lock fields = has_word fields 0 (codes "op") && has_word fields 1 (codes "lock")
+-- it is an operation of that word
+abbrev pub is_op : List ℕ → List (List ℕ) → Bool
+is_op word fields = has_word fields 0 (codes "op") && has_word fields 1 word
 
 -- both have one name at a place
 abbrev pub is_same : ℕ → List (List ℕ) → List (List ℕ) → Bool
 is_same i fields other = has_word other i (name_at fields i)
 
--- a record unlocks the resource of a lock
-abbrev pub is_unlock_of : List (List ℕ) → List (List ℕ) → Bool
-is_unlock_of lock fields = has_word fields 0 (codes "op") && has_word fields 1 (codes "unlock") && is_same 2 lock fields
+-- both declare a resource, or both a task, of one name
+abbrev pub declares_same : List (List ℕ) → List (List ℕ) → Bool
+declares_same fields other = ((is_task fields && is_task other) || (has_word fields 0 (codes "resource") && has_word other 0 (codes "resource"))) && is_same 1 fields other
 
--- a lock behind which no record unlocks its resource: the task holds it still
-abbrev pub is_left : List (List (List ℕ)) → ℕ → Bool
-is_left before i = is_lock (record_at before i) && not (list_any (is_unlock_of (record_at before i)) (drop (i + 1) before))
+-- it unlocks what that one locks
+abbrev pub is_unlock_of : List (List ℕ) → List (List ℕ) → Bool
+is_unlock_of lock fields = is_op (codes "unlock") fields && is_same 2 lock fields
+
+-- the record at a place is a lock, and no later one unlocks its resource
+abbrev pub is_open : List (List (List ℕ)) → ℕ → Bool
+is_open records i = is_op (codes "lock") (record_at records i) && not (list_any (is_unlock_of (record_at records i)) (drop (i + 1) records))

@@ -1,21 +1,20 @@
-//! What is wrong with a refused plan: [`advice_of`] says what fits the refused record, and [`write_refusal`] writes it in words, with the
-//! record as it stands. [`write_record`] and [`write_place`] show a record of any text so.
+//! What is wrong with a refused plan, and what is odd in an accepted one, in words.
+//!
+//! [`RefusedPlan`] says why a record is refused, and shows it with the earlier record that the refusal concerns. [`AcceptedPlan`] lists
+//! the [`Warning`]s on a plan. Which record and which warnings these are is proved; their sentences are tested.
 #![tactic(auto)]
 
-mod advice;
-mod choosing;
 mod earlier;
 mod lines;
 mod nested;
-mod places;
+mod reasons;
 mod records;
-mod refusals;
-mod sentences;
+mod refused;
 mod shown;
 mod warnings;
 
-pub use advice::Advice;
-pub use choosing::advice_of;
-pub use refusals::write_refusal;
-pub use shown::{write_place, write_record};
-pub use warnings::write_accepted;
+pub use earlier::earlier_record;
+pub use nested::{NestedLocks, nested_locks};
+pub use refused::RefusedPlan;
+pub use shown::{Shown, ShownRecord, WrongField};
+pub use warnings::{AcceptedPlan, Warning, warnings_of};

@@ -1,4 +1,4 @@
-//! What a record of a plan is, beside others.
+//! The records of a plan's text: what each is, and what it shares with another.
 ghost use Rattle.std.specs.Prelude.{◌≡◌, ◌<◌, ◌+◌};
 ghost use Rattle.msrp_plan.specs.Common.{length, map, drop, list_any};
 ghost use Rattle.csv.specs.Records.{fields_of};
@@ -8,18 +8,18 @@ ghost use Rattle.msrp_advice.specs.Records as spec;
 use csv::ByteRecord;
 use msrp_text::fields::{has_word, name_at, number_at};
 
-/// The number that a record tells at a place.
-pub(crate) fn number_told(row: &ByteRecord, i: usize) -> u32
-    ensures { result ≡ number_told (fields_of row.now) i }
+/// Whether a record begins a task.
+pub(crate) fn is_task(row: &ByteRecord) -> bool
+    ensures { result ≡ spec.is_task (fields_of row.now) }
 {
-    number_at(row, i).unwrap_or(0)
+    has_word(row, 0, b"task") || has_word(row, 0, b"listed")
 }
 
-/// Whether a record is a lock.
-pub(crate) fn is_lock(row: &ByteRecord) -> bool
-    ensures { result ≡ spec.is_lock (fields_of row.now) }
+/// Whether a record is an operation of that word.
+pub(crate) fn is_op(word: &[u8], row: &ByteRecord) -> bool
+    ensures { result ≡ spec.is_op word.now (fields_of row.now) }
 {
-    has_word(row, 0, b"op") && has_word(row, 1, b"lock")
+    has_word(row, 0, b"op") && has_word(row, 1, word)
 }
 
 /// Whether both have one name at a place.
@@ -29,14 +29,38 @@ pub(crate) fn is_same(i: usize, row: &ByteRecord, other: &ByteRecord) -> bool
     has_word(other, i, name_at(row, i).as_bytes())
 }
 
-// Whether a record unlocks the resource of a lock.
+/// Whether both declare a resource, or both a task, of one name.
+pub(crate) fn declares_same(row: &ByteRecord, other: &ByteRecord) -> bool
+    ensures { result ≡ spec.declares_same (fields_of row.now) (fields_of other.now) }
+{
+    let are_tasks = is_task(row) && is_task(other);
+    let are_resources = has_word(row, 0, b"resource") && has_word(other, 0, b"resource");
+    (are_tasks || are_resources) && is_same(1, row, other)
+}
+
+/// The number that a record has at a place; 0 where there is none.
+pub(crate) fn number_told(row: &ByteRecord, i: usize) -> u32
+    ensures { result ≡ number_told (fields_of row.now) i }
+{
+    number_at(row, i).unwrap_or(0)
+}
+
+/// A field of a record, empty where there is none.
+pub(crate) fn field(row: &ByteRecord, i: usize) -> &[u8] {
+    match row.get(i) {
+        Some(field) => field,
+        None => b"",
+    }
+}
+
+// Whether a record unlocks what that one locks.
 fn is_unlock_of(lock: &ByteRecord, row: &ByteRecord) -> bool
     ensures { result ≡ spec.is_unlock_of (fields_of lock.now) (fields_of row.now) }
 {
-    has_word(row, 0, b"op") && has_word(row, 1, b"unlock") && is_same(2, lock, row)
+    is_op(b"unlock", row) && is_same(2, lock, row)
 }
 
-// Whether a record behind the lock at a place unlocks its resource.
+// Whether a record after the lock at a place unlocks its resource.
 fn is_let_go(before: &[ByteRecord], i: usize) -> bool
     requires { i < length before.now }
     ensures { result ≡ list_any (spec.is_unlock_of (record_at (map fields_of before.now) i)) (drop (i + 1) (map fields_of before.now)) }
@@ -49,10 +73,36 @@ fn is_let_go(before: &[ByteRecord], i: usize) -> bool
     false
 }
 
-/// Whether the record at a place is a lock behind which no record unlocks its resource.
-pub(crate) fn is_left(before: &[ByteRecord], i: usize) -> bool
+/// Whether the record at a place is a lock, and none after it unlocks its resource.
+pub(crate) fn is_open(before: &[ByteRecord], i: usize) -> bool
     requires { i < length before.now }
-    ensures { result ≡ spec.is_left (map fields_of before.now) i }
+    ensures { result ≡ spec.is_open (map fields_of before.now) i }
 {
-    is_lock(&before[i]) && !is_let_go(before, i)
+    is_op(b"lock", &before[i]) && !is_let_go(before, i)
+}
+
+/// How many jobs a periodic task releases within the ticks, which the third record has.
+pub(crate) fn jobs_of(records: &[ByteRecord], task: &ByteRecord) -> u32 {
+    let (period, offset) = (number_told(task, 3), number_told(task, 5));
+    let ticks = match records.get(2) {
+        Some(row) => number_told(row, 1),
+        None => 0,
+    };
+    if period == 0 {
+        0
+    } else {
+        ticks.saturating_sub(offset).div_ceil(period)
+    }
+}
+
+/// The place of a periodic task that releases the most jobs.
+pub(crate) fn busiest_task(records: &[ByteRecord]) -> Option<usize> {
+    let tasks = records
+        .iter()
+        .enumerate()
+        .filter(|(_, row)| has_word(row, 0, b"task"));
+    match tasks.max_by_key(|(_, row)| jobs_of(records, row)) {
+        Some((place, _)) => Some(place),
+        None => None,
+    }
 }

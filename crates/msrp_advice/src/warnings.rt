@@ -1,76 +1,40 @@
 //! What is odd in an accepted plan.
 ghost use Rattle.std.specs.Prelude.{◌≡◌, ◌<◌, ◌||◌};
-ghost use Rattle.msrp_plan.specs.Common.{length, list_any, range_with_len, Wrote};
-ghost use Rattle.msrp_advice.specs.Warnings.{accepted_text, core_units, core_warning, core_warnings, deadline_warning, each, has_deadline, load_warning, no_job_warning, resource_warning, task_warnings, ticks_warning, units_of};
+ghost use Rattle.msrp_plan.specs.Common.{length, list_any, range_with_len, IfOk, OnOk};
+ghost use Rattle.msrp_advice.specs.Warnings.{core_units, has_deadline, units_of, is_odd};
+ghost use Rattle.std.specs.List.{AllPass};
 
-use crate::shown::write_number;
+use crate::shown::Count;
 use msrp_levels::Levels;
-use msrp_plan::bytes::Sink;
 use msrp_plan::{CoreId, JobId, Plan, ResId, TaskId};
-use std::io::Write;
+use std::alloc::{AllocError, Global};
+use std::fmt;
 
-// A task that has no job.
-fn warn_of_no_job<W: Write>(out: &mut Sink<W>, plan: &Plan, task: TaskId)
-    requires { task.0 < length plan.now.tasks }
-    ensures { Wrote W.contents out.old out.new (no_job_warning plan.now task.0) }
-{
-    if plan.jobs(task) == 0 {
-        out.add(b"task ");
-        out.add(plan.task_name(task).as_bytes());
-        out.add(b" has no job within the ticks\n");
-    }
+/// Something in an accepted plan that is rarely meant so.
+#[derive(Clone, Copy, Debug, PartialEq, Eq)]
+pub enum Warning {
+    /// A task releases no job within the ticks.
+    NoJob(TaskId),
+    /// A task has more units than its relative deadline has ticks.
+    ShortDeadline {
+        task: TaskId,
+        units: u32,
+        deadline: u32,
+    },
+    /// No task locks a resource.
+    UnusedResource(ResId),
+    /// A core has no task.
+    IdleCore(CoreId),
+    /// The jobs of a core have so many units, more than the plan has ticks.
+    Overload {
+        core: CoreId,
+        units: u128,
+    },
+    /// No job has its absolute deadline within the ticks.
+    NoDeadline,
 }
 
-// A task with more units than its relative deadline has ticks.
-fn warn_of_deadline<W: Write>(out: &mut Sink<W>, plan: &Plan, task: TaskId)
-    requires { task.0 < length plan.now.tasks }
-    ensures { Wrote W.contents out.old out.new (deadline_warning plan.now task.0) }
-{
-    if plan.deadline(task) < plan.units(task) {
-        out.add(b"task ");
-        out.add(plan.task_name(task).as_bytes());
-        out.add(b" has ");
-        write_number(out, plan.units(task));
-        out.add(b" units, and its relative deadline is ");
-        write_number(out, plan.deadline(task));
-        out.add(b"\n");
-    }
-}
-
-fn warn_of_task<W: Write>(out: &mut Sink<W>, plan: &Plan, task: TaskId)
-    requires { task.0 < length plan.now.tasks }
-    ensures { Wrote W.contents out.old out.new (task_warnings plan.now task.0) }
-{
-    warn_of_no_job(out, plan, task);
-    warn_of_deadline(out, plan, task);
-}
-
-// A resource that no task locks.
-fn warn_of_resource<W: Write>(out: &mut Sink<W>, plan: &Plan, levels: &Levels<'_>, res: ResId)
-    requires levels { levels.now ≡ plan.now }
-    requires res { res.0 < length plan.now.resources }
-    ensures { Wrote W.contents out.old out.new (resource_warning plan.now res.0) }
-{
-    if levels.users(res).len() == 0 {
-        out.add(b"resource ");
-        out.add(plan.res_name(res).as_bytes());
-        out.add(b" is locked by no task\n");
-    }
-}
-
-// A core without tasks.
-fn warn_of_core<W: Write>(out: &mut Sink<W>, levels: &Levels<'_>, core: CoreId)
-    requires { core.0 < levels.now.cores }
-    ensures { Wrote W.contents out.old out.new (core_warning levels.now core.0) }
-{
-    if levels.top(core) == 0 {
-        out.add(b"core ");
-        write_number(out, core.0);
-        out.add(b" has no task\n");
-    }
-}
-
-// How many units the jobs of a task have, where it is a task of that core.
+// How many units the jobs of a task have, if it is a task of that core.
 fn units_of(plan: &Plan, core: CoreId, task: TaskId) -> u64
     requires { task.0 < length plan.now.tasks }
     ensures { result ≡ units_of plan.now core.0 task.0 }
@@ -82,7 +46,7 @@ fn units_of(plan: &Plan, core: CoreId, task: TaskId) -> u64
     }
 }
 
-// How many units the jobs of a core have. The sum of so many products is told in as many bits as it may have by its types alone.
+// How many units the jobs of a core have.
 fn core_units(plan: &Plan, core: CoreId) -> u128
     ensures { result ≡ core_units plan.now core.0 }
 {
@@ -93,23 +57,7 @@ fn core_units(plan: &Plan, core: CoreId) -> u128
     sum
 }
 
-// A core whose jobs have more units than there are ticks.
-fn warn_of_load<W: Write>(out: &mut Sink<W>, plan: &Plan, core: CoreId)
-    ensures { Wrote W.contents out.old out.new (load_warning plan.now core.0) }
-{
-    let units = core_units(plan, core);
-    if u128::from(plan.ticks()) < units {
-        out.add(b"core ");
-        write_number(out, core.0);
-        out.add(b": its jobs have ");
-        write_number(out, units);
-        out.add(b" units, and the plan has ");
-        write_number(out, plan.ticks());
-        out.add(b" ticks\n");
-    }
-}
-
-// Whether a task has a job whose deadline comes by the end of the ticks: then its first job is one.
+// Whether a task has a job whose absolute deadline is within the ticks: then its first job is one.
 fn has_deadline(plan: &Plan, task: TaskId) -> bool
     requires { task.0 < length plan.now.tasks }
     ensures { result ≡ has_deadline plan.now task.0 }
@@ -117,74 +65,189 @@ fn has_deadline(plan: &Plan, task: TaskId) -> bool
     0 < plan.jobs(task) && plan.job_key(JobId { task, k: 0 }).deadline <= u64::from(plan.ticks())
 }
 
-// Whether that is so of a task before, or of this one.
-fn has_deadline_or(before: bool, plan: &Plan, task: TaskId) -> bool
-    requires { task.0 < length plan.now.tasks }
-    ensures { result ≡ (before || has_deadline plan.now task.0) }
-{
-    before || has_deadline(plan, task)
-}
-
-// Whether a job has its deadline by the end of the ticks.
+// Whether a job has its absolute deadline within the ticks.
 fn any_has_deadline(plan: &Plan) -> bool
     ensures { result ≡ list_any (has_deadline plan.now) (range_with_len 0 (length plan.now.tasks)) }
 {
-    let mut any = false;
-    for task in 0..plan.tasks() {
-        any = has_deadline_or(any, plan, TaskId(task));
-    }
-    any
+    (0..plan.tasks()).any(|task| has_deadline(plan, TaskId(task)))
 }
 
-// Ticks that end before the first deadline.
-fn warn_of_ticks<W: Write>(out: &mut Sink<W>, plan: &Plan)
-    ensures { Wrote W.contents out.old out.new (ticks_warning plan.now) }
+// Adds a warning if there is reason for it.
+fn warn_if(
+    reason: bool,
+    plan: &Plan,
+    warnings: &mut Vec<Warning>,
+    warning: Warning,
+) -> Result<(), AllocError>
+    requires fact { reason ≡ is_odd plan.now warning }
+    requires facts { AllPass (is_odd plan.now) warnings.old.items }
+    ensures { OnOk result (AllPass (is_odd plan.now) warnings.new.items) }
 {
-    if !any_has_deadline(plan) {
-        out.add(b"no job has its deadline within the ");
-        write_number(out, plan.ticks());
-        out.add(b" ticks\n");
+    if reason {
+        warnings.push(warning)?;
     }
+    Ok(())
 }
 
-fn warn_of_tasks<W: Write>(out: &mut Sink<W>, plan: &Plan)
-    ensures { Wrote W.contents out.old out.new (each (task_warnings plan.now) (length plan.now.tasks)) }
+fn warn_of_tasks(plan: &Plan, warnings: &mut Vec<Warning>) -> Result<(), AllocError>
+    requires { AllPass (is_odd plan.now) warnings.old.items }
+    ensures { OnOk result (AllPass (is_odd plan.now) warnings.new.items) }
 {
     for task in 0..plan.tasks() {
-        warn_of_task(out, plan, TaskId(task));
+        let task = TaskId(task);
+        warn_if(plan.jobs(task) == 0, plan, warnings, Warning::NoJob(task))?;
+        let (units, deadline) = (plan.units(task), plan.deadline(task));
+        let short = Warning::ShortDeadline {
+            task,
+            units,
+            deadline,
+        };
+        warn_if(deadline < units, plan, warnings, short)?;
     }
+    Ok(())
 }
 
-fn warn_of_resources<W: Write>(out: &mut Sink<W>, plan: &Plan, levels: &Levels<'_>)
-    requires { levels.now ≡ plan.now }
-    ensures { Wrote W.contents out.old out.new (each (resource_warning plan.now) (length plan.now.resources)) }
+fn warn_of_resources(
+    plan: &Plan,
+    levels: &Levels<'_>,
+    warnings: &mut Vec<Warning>,
+) -> Result<(), AllocError>
+    requires levels { levels.now ≡ plan.now }
+    requires facts { AllPass (is_odd plan.now) warnings.old.items }
+    ensures { OnOk result (AllPass (is_odd plan.now) warnings.new.items) }
 {
     for res in 0..plan.resources() {
-        warn_of_resource(out, plan, levels, ResId(res));
+        let res = ResId(res);
+        let is_unused = levels.users(res).len() == 0;
+        warn_if(is_unused, plan, warnings, Warning::UnusedResource(res))?;
     }
+    Ok(())
 }
 
-fn warn_of_cores<W: Write>(out: &mut Sink<W>, plan: &Plan, levels: &Levels<'_>)
-    requires { levels.now ≡ plan.now }
-    ensures { Wrote W.contents out.old out.new (each (core_warnings plan.now) plan.now.cores) }
+fn warn_of_cores(
+    plan: &Plan,
+    levels: &Levels<'_>,
+    warnings: &mut Vec<Warning>,
+) -> Result<(), AllocError>
+    requires levels { levels.now ≡ plan.now }
+    requires facts { AllPass (is_odd plan.now) warnings.old.items }
+    ensures { OnOk result (AllPass (is_odd plan.now) warnings.new.items) }
 {
     for core in 0..plan.cores() {
-        warn_of_core(out, levels, CoreId(core));
-        warn_of_load(out, plan, CoreId(core));
+        let core = CoreId(core);
+        warn_if(
+            levels.top(core) == 0,
+            plan,
+            warnings,
+            Warning::IdleCore(core),
+        )?;
+        let units = core_units(plan, core);
+        let is_more = u128::from(plan.ticks()) < units;
+        warn_if(is_more, plan, warnings, Warning::Overload { core, units })?;
+    }
+    Ok(())
+}
+
+/// The warnings on a plan: on its tasks, its resources, its cores and its ticks, in this order.
+pub fn warnings_of(
+    alloc: Global,
+    plan: &Plan,
+    levels: &Levels<'_>,
+) -> Result<Vec<Warning>, AllocError>
+    requires { levels.now ≡ plan.now }
+    ensures { IfOk result (λ warnings. AllPass (is_odd plan.now) warnings.items) }
+{
+    let mut warnings = Vec::new(alloc);
+    warn_of_tasks(plan, &mut warnings)?;
+    warn_of_resources(plan, levels, &mut warnings)?;
+    warn_of_cores(plan, levels, &mut warnings)?;
+    let is_late = !any_has_deadline(plan);
+    warn_if(is_late, plan, &mut warnings, Warning::NoDeadline)?;
+    Ok(warnings)
+}
+
+// A warning on a plan, in words.
+#[derive(Clone, Copy)]
+struct Worded<'a> {
+    plan: &'a Plan,
+    warning: Warning,
+}
+
+impl Worded<'_> {
+    // The name of a task; a number that is no task's has none.
+    fn task(&self, task: TaskId) -> &str {
+        if task.0 < self.plan.tasks() {
+            self.plan.task_name(task)
+        } else {
+            ""
+        }
+    }
+
+    fn resource(&self, res: ResId) -> &str {
+        if res.0 < self.plan.resources() {
+            self.plan.res_name(res)
+        } else {
+            ""
+        }
     }
 }
 
-/// Writes that a plan is good, and then a line for each thing that is odd in it: a task without a job or with more units than its
-/// relative deadline has ticks, a resource that no task locks, a core without tasks
-/// or whose jobs have more units than there are ticks, and ticks that end before the first deadline.
-#[tactic(auto, unfolding(crate::specs::Warnings::accepted_text))]
-pub fn write_accepted<W: Write>(out: &mut Sink<W>, plan: &Plan, levels: &Levels<'_>)
-    requires { levels.now ≡ plan.now }
-    ensures { Wrote W.contents out.old out.new (accepted_text plan.now) }
-{
-    out.add(b"good\n");
-    warn_of_tasks(out, plan);
-    warn_of_resources(out, plan, levels);
-    warn_of_cores(out, plan, levels);
-    warn_of_ticks(out, plan);
+impl fmt::Display for Worded<'_> {
+    fn fmt<W: fmt::Write>(&self, f: &mut fmt::Formatter<W>) -> fmt::Result {
+        let all = u128::from(self.plan.ticks());
+        let ticks = Count(all, "tick");
+        match self.warning {
+            Warning::NoJob(task) => {
+                let name = self.task(task);
+                write!(f, "task {name} releases no job within the plan ({ticks})")
+            }
+            Warning::ShortDeadline {
+                task,
+                units,
+                deadline,
+            } => {
+                let name = self.task(task);
+                write!(
+                    f,
+                    "task {name} can't meet its deadline: needs {units} ticks, has {deadline}"
+                )
+            }
+            Warning::UnusedResource(res) => {
+                write!(f, "resource {} is locked by no task", self.resource(res))
+            }
+            Warning::IdleCore(core) => write!(f, "core {} has no task", core.0),
+            Warning::Overload { core, units } => {
+                let (work, percent) = (Count(units, "tick"), units.saturating_mul(100) / all);
+                write!(
+                    f,
+                    "core {} is overloaded: {work} of work in {ticks} ({percent} %)",
+                    core.0
+                )
+            }
+            Warning::NoDeadline => {
+                write!(f, "no job has its deadline within the plan ({ticks})")
+            }
+        }
+    }
+}
+
+/// What is said of an accepted plan: that it is good, and then the warnings on it, a line each.
+#[derive(Clone, Copy)]
+pub struct AcceptedPlan<'a> {
+    pub plan: &'a Plan,
+    pub warnings: &'a [Warning],
+}
+
+impl fmt::Display for AcceptedPlan<'_> {
+    fn fmt<W: fmt::Write>(&self, f: &mut fmt::Formatter<W>) -> fmt::Result {
+        f.write_str("good\n")?;
+        for warning in self.warnings {
+            let worded = Worded {
+                plan: self.plan,
+                warning: *warning,
+            };
+            writeln!(f, "warning: {worded}")?;
+        }
+        Ok(())
+    }
 }

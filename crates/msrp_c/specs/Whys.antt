@@ -4,7 +4,7 @@ use Rattle.msrp_plan.specs.declared.faults.Fault.{Fault}
 use Rattle.msrp_faults.specs.declared.faults.CliFault.{CliFault}
 use Rattle.msrp_faults.specs.declared.faults.CliFault.TheVariants.{Plan}
 use Rattle.msrp_text.specs.Reading.{csv_records, plan_of}
-use Rattle.msrp_view_engine.specs.Explaining.{AreWordsOn}
+use Rattle.msrp_view_engine.specs.Explaining.{IsRefusedAs}
 use Rattle.msrp_view_engine.specs.declared.why_plan.Refusal.{Refusal}
 use Rattle.msrp_view_engine.specs.declared.why_plan.Words.{Words}
 use Rattle.msrp_engine.specs.Answered.{OrUnread}
@@ -26,9 +26,9 @@ abbrev pub words_in : Result Words CliFault → List ℕ
 words_in (Ok words) = words.text.items
 words_in (Err fault) = []
 
--- these are the words on a plan's text
+-- these are words on a plan's text, with its refusal
 abbrev pub AreWords : List ℕ → Result Words CliFault → Type 0
-AreWords text words = OrUnread words (IsOkAnd words (AreWordsOn text (plan_of (csv_records text))))
+AreWords text words = OrUnread words (IsOkAnd words (λ made. IsRefusedAs (plan_of (csv_records text)) made.refusal))
 
 -- words are handed over with the plan's refusal, which is no fault of the call: a refused plan has words too
 abbrev pub HandsWords : Result Words CliFault → List ℕ → List ℕ → ℕ → MsrpFound → ℕ → Type 0

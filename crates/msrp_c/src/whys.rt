@@ -17,7 +17,7 @@ use std::alloc::Global;
 
 // The words on a trace.
 fn explained(alloc: Global, plan: &[u8], trace: &[u8]) -> Result<Made, CliFault>
-    ensures { OrUnread result (IsWhyOf (plan_of (csv_records plan.now)) trace.now result) }
+    ensures { OrUnread result (IsWhyOf (plan_of (csv_records plan.now)) (csv_records trace.now) result) }
 {
     let mut plan = Source::new(plan);
     let mut trace = Source::new(trace);
@@ -34,7 +34,7 @@ pub extern "C" fn msrp_why(
     needed: &mut usize,
     found: &mut MsrpFound,
 ) -> u32
-    ensures { Answers (is_long plan.now || is_long trace.now) (λ made. OrUnread made (IsWhyOf (plan_of (csv_records plan.now)) trace.now made)) text.old text.new needed.new found.new result }
+    ensures { Answers (is_long plan.now || is_long trace.now) (λ made. OrUnread made (IsWhyOf (plan_of (csv_records plan.now)) (csv_records trace.now) made)) text.old text.new needed.new found.new result }
 {
     if are_long(plan, trace) {
         return hand_over(Err(CliFault::Read), text, needed, found);
@@ -48,7 +48,7 @@ fn advised(alloc: Global, plan: &[u8]) -> Result<Words, CliFault>
     ensures { AreWords plan.now result }
 {
     let mut plan = Source::new(plan);
-    why_of_plan(alloc, &mut plan)
+    why_of_plan(alloc, "plan", &mut plan)
 }
 
 // A plan's refusal, if there is one.

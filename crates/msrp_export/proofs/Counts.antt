@@ -1,13 +1,13 @@
 -- What is kept of a resource, with one row more.
 use Rattle.std.proofs.Common.{◌≡◌, ◌+◌, ◌≤◌, ◌<◌, ◌^◌, ◌==◌, ◌&&◌, ◌∷◌, ◌++◌, ◌∙◌}
 use Rattle.msrp_plan.proofs.Common.{ℕ, Bool, true, false, cond, List, [], ap, sym, arith, length, length-append, Option, Some, None, refl, slice_index_or, slice_set, eqb-true, eq-eqb, true≢false, get_or-set_at, get_or-set_other, count_by, is_some, cons_option, filter_map-append, count_by-le-length, fold_push, sum_by_push, is_on, is_release, is_release_of, is_request, requester}
+use Rattle.std.specs.Prelude.{filter_map}
 use Rattle.msrp_plan.specs.declared.ids.JobId.{JobId}
 use Rattle.msrp_plan.specs.declared.ids.ResId.{ResId}
 use Rattle.msrp_plan.specs.declared.rows.Row.{Row}
-use Rattle.std.specs.Prelude.{filter_map}
 use Rattle.msrp_export.specs.Signals.{holder, holder_by, holder_with}
-use Rattle.msrp_export.specs.Tells.{no_use, use_of, used}
-use Rattle.msrp_export.specs.declared.standing.ResUse.{ResUse}
+use Rattle.msrp_export.specs.Summaries.{no_use, use_of, used}
+use Rattle.msrp_export.specs.declared.summary.ResourceUse.{ResourceUse}
 
 -- ---- numbers that fit
 pub few_of : (p : Row → Bool) (rows : List Row) → count_by p rows ≤ length rows
@@ -53,7 +53,7 @@ few_requests g (r ∷ rows) =
     let few = few_requests g rows in
     omega (arith, split, one, few)
 
-pub use_fits : (g : ℕ) (rows : List Row) (u : ResUse) → u ≡ use_of g rows → length rows + 1 < 2 ^ 32 → (u.requests + 1 < 2 ^ 32) × (u.releases + 1 < 2 ^ 32)
+pub use_fits : (g : ℕ) (rows : List Row) (u : ResourceUse) → u ≡ use_of g rows → length rows + 1 < 2 ^ 32 → (u.requests + 1 < 2 ^ 32) × (u.releases + 1 < 2 ^ 32)
 use_fits g rows u is few =
     let q : u.requests ≡ length (filter_map (requester g) rows) = ap (λ x. x.requests) is in
     let n : u.releases ≡ count_by (is_release_of g) rows = ap (λ x. x.releases) is in
@@ -62,10 +62,10 @@ use_fits g rows u is few =
     (omega (arith, q, m, few), omega (arith, n, k, few))
 
 -- ---- by number
-abbrev pub FitsUse : ResUse → Type 0
+abbrev pub FitsUse : ResourceUse → Type 0
 FitsUse u = (u.requests + 1 < 2 ^ 32) × (u.releases + 1 < 2 ^ 32)
 
-by_res : (us : List ResUse) (n g : ℕ) (r : Row) (rows : List Row) (v : ResUse) → n < length us → (on : Bool) → (n == g) ≡ on → is_on g r.res ≡ on → length rows + 1 < 2 ^ 32
+by_res : (us : List ResourceUse) (n g : ℕ) (r : Row) (rows : List Row) (v : ResourceUse) → n < length us → (on : Bool) → (n == g) ≡ on → is_on g r.res ≡ on → length rows + 1 < 2 ^ 32
     → slice_index_or us g no_use ≡ use_of g rows → (FitsUse (slice_index_or us n no_use) → v ≡ used r (slice_index_or us n no_use)) → slice_index_or (slice_set us n v) g no_use ≡ use_of g (rows ++ r ∷ [])
 by_res us n g r rows v low true same own few was gives =
     let at : n ≡ g = eqb-true n g same in
@@ -77,9 +77,9 @@ by_res us n g r rows v low false other own few was gives =
     get_or-set_other us n g v no_use (λ e. absurd (true≢false (sym (eq-eqb n g (sym e)) ∙ other)))
     ∙ (was ∙ sym (use_push g rows r ∙ ap (λ b. cond b (used r (use_of g rows)) (use_of g rows)) own))
 
-pub set_res : (us : List ResUse) (o : ResId) (g : ℕ) (r : Row) (rows : List Row) (v : ResUse) → r.res ≡ Some o → o.0 < length us → length rows + 1 < 2 ^ 32 → slice_index_or us g no_use ≡ use_of g rows
+pub set_res : (us : List ResourceUse) (o : ResId) (g : ℕ) (r : Row) (rows : List Row) (v : ResourceUse) → r.res ≡ Some o → o.0 < length us → length rows + 1 < 2 ^ 32 → slice_index_or us g no_use ≡ use_of g rows
     → (FitsUse (slice_index_or us o.0 no_use) → v ≡ used r (slice_index_or us o.0 no_use)) → slice_index_or (slice_set us o.0 v) g no_use ≡ use_of g (rows ++ r ∷ [])
 set_res us o g r rows v is low few was gives = by_res us o.0 g r rows v low (o.0 == g) refl (ap (is_on g) is) few was gives
 
-pub other_res : (g : ℕ) (r : Row) (rows : List Row) (u : ResUse) → is_on g r.res ≡ false → u ≡ use_of g rows → u ≡ use_of g (rows ++ r ∷ [])
+pub other_res : (g : ℕ) (r : Row) (rows : List Row) (u : ResourceUse) → is_on g r.res ≡ false → u ≡ use_of g rows → u ≡ use_of g (rows ++ r ∷ [])
 other_res g r rows u other was = was ∙ sym (use_push g rows r ∙ ap (λ b. cond b (used r (use_of g rows)) (use_of g rows)) other)

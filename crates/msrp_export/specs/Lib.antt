@@ -1,10 +1,4 @@
-pub mod Words
-pub mod Groups
 pub mod Signals
-pub mod Keeping
 pub mod Ticks
-pub mod Vcd
-pub mod Perfetto
-pub mod Changes
-pub mod Tells
+pub mod Summaries
 pub mod Exports

@@ -1,35 +1,44 @@
--- Rows by their ticks, and what a task does in one.
-use Rattle.std.specs.Prelude.{if◌then◌else◌, ◌+◌, ◌-◌, ◌*◌, ◌/◌}
-use Rattle.msrp_plan.specs.Common.{ℕ, List, take, length, nat_eq, nat_lt, false, None, job_at, PlanModel}
+-- The states of each core, task and resource in a tick and in the tick before. A tick has one row
+-- of each core.
+use Rattle.std.specs.Prelude.{if◌then◌else◌, ◌+◌, ◌-◌, ◌*◌}
+use Rattle.msrp_plan.specs.Common.{ℕ, List, take, length, nat_eq, None, PlanModel, Option, Some}
 use Rattle.msrp_plan.specs.declared.rows.Row.{Row}
-use Rattle.msrp_export.specs.Signals.{doing_of}
-use Rattle.msrp_export.specs.declared.states.Doing.{Doing}
-use Rattle.msrp_export.specs.declared.states.TaskState.TheVariants.{Unreleased}
+use Rattle.msrp_export.specs.Signals.{core_action, resource_state, task_status}
+use Rattle.msrp_export.specs.declared.signals.ResourceState.{ResourceState}
+use Rattle.msrp_export.specs.declared.signals.States.{States}
+use Rattle.msrp_export.specs.declared.signals.States.TheVariants.{Core, Resource, Task}
+use Rattle.msrp_export.specs.declared.tasks.TaskStatus.{TaskStatus}
+use Rattle.msrp_export.specs.declared.tracks.Group.{Group}
+use Rattle.msrp_export.specs.declared.tracks.Group.TheVariants.{Cores, Resources, Tasks}
 
--- how many ticks are over
-abbrev pub over : PlanModel → List Row → ℕ
-over plan rows = length rows / plan.cores
-
--- how many ticks have rows
-abbrev pub begun : PlanModel → List Row → ℕ
-begun plan rows = if nat_lt (over plan rows * plan.cores) (length rows) then over plan rows + 1 else over plan rows
+-- how many tracks of a group a plan has
+abbrev pub track_count : PlanModel → Group → ℕ
+track_count plan Cores = plan.cores
+track_count plan Tasks = length plan.tasks
+track_count plan Resources = length plan.resources
 
 -- the rows before a tick
 abbrev pub rows_before : PlanModel → List Row → ℕ → List Row
 rows_before plan rows tick = take (tick * plan.cores) rows
 
--- the rows of ticks up to this one
+-- the rows up to the end of a tick
 abbrev pub rows_in : PlanModel → List Row → ℕ → List Row
 rows_in plan rows tick = rows_before plan rows (tick + 1)
 
 -- what a task does in a tick
-abbrev pub doing_in : PlanModel → List Row → ℕ → ℕ → Doing
-doing_in plan rows tick t = doing_of plan (rows_before plan rows tick) (rows_in plan rows tick) tick t
+abbrev pub status_in : PlanModel → List Row → ℕ → ℕ → TaskStatus
+status_in plan rows tick t = task_status plan (rows_before plan rows tick) (rows_in plan rows tick) tick t
 
--- what a task does before the first tick
-abbrev pub at_rest : ℕ → Doing
-at_rest t = record { state = Unreleased; job = job_at t 0; late = false; kind = None; work = 0 }
+-- what a task did in the tick before, if there is one
+abbrev pub status_before : PlanModel → List Row → ℕ → ℕ → Option TaskStatus
+status_before plan rows tick t = if nat_eq tick 0 then None else Some (status_in plan rows (tick - 1) t)
 
--- what a task did in the tick before
-abbrev pub doing_before : PlanModel → List Row → ℕ → ℕ → Doing
-doing_before plan rows tick t = if nat_eq tick 0 then at_rest t else doing_of plan (rows_before plan rows (tick - 1)) (rows_before plan rows tick) (tick - 1) t
+-- the state of a resource in the tick before, if there is one
+abbrev pub state_before : PlanModel → List Row → ℕ → ℕ → Option ResourceState
+state_before plan rows tick g = if nat_eq tick 0 then None else Some (resource_state g (rows_before plan rows tick))
+
+-- the states of one core, task or resource in the tick before and in the tick
+abbrev pub states_of : PlanModel → List Row → ℕ → Group → ℕ → States
+states_of plan rows tick Cores c = Core (core_action c (rows_before plan rows tick)) (core_action c (rows_in plan rows tick))
+states_of plan rows tick Tasks t = Task (status_before plan rows tick t) (status_in plan rows tick t)
+states_of plan rows tick Resources g = Resource (state_before plan rows tick g) (resource_state g (rows_in plan rows tick))

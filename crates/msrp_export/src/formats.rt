@@ -1,10 +1,10 @@
-//! The formats in which rows are written.
+//! The formats of other tools.
 
 /// A format of another tool.
 #[derive(Clone, Copy, Debug, PartialEq, Eq)]
 pub enum Format {
-    /// A value change dump (IEEE 1364), for viewers of waves.
+    /// A value change dump (IEEE 1364), for wave viewers.
     Vcd,
-    /// The JSON of trace events, which Perfetto opens.
+    /// The JSON of trace events, for Perfetto.
     Perfetto,
 }

@@ -1,21 +1,21 @@
-//! Traces in the formats of other tools: a value change dump (VCD, IEEE 1364), as GTKWave opens it, and the JSON of trace events, as
-//! Perfetto does.
+//! Traces in the formats of other tools: a value change dump (VCD, IEEE 1364) for wave viewers such
+//! as GTKWave, and the JSON of trace events for Perfetto.
 //!
-//! An [`Exporter`] takes the rows of a trace as they come, and writes what each tick changes of cores, tasks and resources. It keeps no
-//! list of rows.
+//! An [`Exporter`] takes the rows of a trace one by one. It keeps what the rows so far say of each
+//! core, task and resource, and writes each tick's changes once all rows of the tick are there. It
+//! keeps no list of rows, and doesn't judge them.
 #![tactic(auto)]
 
-mod changes;
 mod exporter;
 mod formats;
-mod groups;
-mod keeping;
+mod names;
 mod perfetto;
-mod recent;
-mod standing;
-mod states;
+mod signals;
+mod summary;
+mod tasks;
+mod tracks;
 mod vcd;
-mod words;
+mod walk;
 
 pub use exporter::Exporter;
 pub use formats::Format;

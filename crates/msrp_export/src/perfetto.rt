@@ -1,455 +1,211 @@
-//! The JSON of trace events: the tracks and events of cores, tasks and resources, and the end.
-ghost use Rattle.std.specs.Prelude.{◌≡◌, ◌<◌};
-ghost use Rattle.msrp_plan.specs.Common.{List, length, Wrote, IsPlan};
-ghost use Rattle.msrp_plan.specs.declared.rows.Row.{Row as TraceRow};
-ghost use Rattle.msrp_export.specs.Exports.{TellsTick};
-ghost use Rattle.msrp_export.specs.Groups.{count_of, each_of};
-ghost use Rattle.msrp_export.specs.Perfetto.{arrow, arrow_event, arrow_part, broken_text, core_change, end_event, ends_text, event, has_slice, holder_begin, holder_end, holder_event, is_newly_late, job_args, late_event, late_instant, pid, place, res_change, row_begin, row_end, row_event, slice_end, task_begin, task_change, task_end, task_event, task_slices, title, track, works};
+//! The JSON of trace events, as Perfetto and Chrome read it; a tick is one microsecond. Names need
+//! no escapes, since a plan's names have letters, digits and `_` only.
 
-use crate::groups::{Group, add_name, count_of};
-use crate::keeping::{keeps_row, same_choice, same_doing, same_job};
-use crate::recent::Recent;
-use crate::standing::ResState;
-use crate::states::{Doing, TaskState, doing_before};
-use crate::words::{add_faulty, add_job, add_long, add_number, res_or_dash, state_word};
-use msrp_plan::bytes::Sink;
-use msrp_plan::{CoreId, JobId, Kind, Plan, ResId, Row, Rule, TaskId};
-use std::io::Write;
+use crate::names::{FaultyRow, JobName, resource_name, state_name, task_name};
+use crate::signals::{Change, CoreAction, ResourceState, States};
+use crate::tasks::{TaskState, TaskStatus};
+use crate::tracks::{Group, Track};
+use crate::walk::Written;
+use bstr::ByteSlice;
+use msrp_plan::{JobId, Kind, Plan, ResId, Row, Rule, TaskId};
+use std::fmt::Write;
 
-// The number of a process.
-#[tactic(auto, unfolding(crate::specs::Perfetto::pid))]
-fn pid_word(group: Group) -> &'static [u8]
-    ensures { result.now ≡ pid group }
-{
-    match group {
-        Group::Cores => b"100",
-        Group::Tasks => b"200",
-        Group::Resources => b"300",
+/// What comes before the names of the tracks.
+pub(crate) const HEAD: &str =
+    r#"{"displayTimeUnit":"ns","otherData":{"program":"msrp_view","time":"one microsecond is one tick"},"traceEvents":[
+{"ph":"M","pid":100,"name":"process_name","args":{"name":"cores"}},
+{"ph":"M","pid":100,"name":"process_sort_index","args":{"sort_index":1}},
+{"ph":"M","pid":200,"name":"process_name","args":{"name":"tasks"}},
+{"ph":"M","pid":200,"name":"process_sort_index","args":{"sort_index":2}},
+{"ph":"M","pid":300,"name":"process_name","args":{"name":"resources"}},
+{"ph":"M","pid":300,"name":"process_sort_index","args":{"sort_index":3}}"#;
+
+/// What comes after the last event.
+pub(crate) const END: &str = "\n]}\n";
+
+/// What a slice shows: a core's rows of one kind, job and resource; the ticks of a task in one
+/// state with one job; those of a resource with one holder.
+#[derive(Clone, Copy, PartialEq, Eq)]
+enum Slice {
+    Action(CoreAction),
+    State(TaskState, JobId),
+    Holder(JobId),
+}
+
+/// Names a track, and orders the tracks of a group by their numbers.
+pub(crate) fn write_track(text: &mut String, plan: &Plan, track: Track) -> Written {
+    let number = track.number;
+    begin_event(text, 'M', track)?;
+    text.push_str(r#","name":"thread_name","args":{"name":""#)?;
+    match track.group {
+        Group::Cores => write!(text, "core {number}")?,
+        Group::Tasks => text.push_str(task_name(plan, TaskId(number)))?,
+        Group::Resources => text.push_str(resource_name(plan, Some(ResId(number))))?,
     }
+    text.push_str(r#""}}"#)?;
+    begin_event(text, 'M', track)?;
+    write!(
+        text,
+        r#","name":"thread_sort_index","args":{{"sort_index":{number}}}}}"#
+    )
 }
 
-// Where an event stands. Number 0 is no thread for viewers.
-fn add_place<W: Write>(out: &mut Sink<W>, group: Group, number: u32)
-    ensures { Wrote W.contents out.old out.new (place group number) }
-{
-    out.add(b"\"pid\":");
-    out.add(pid_word(group));
-    out.add(b",\"tid\":");
-    add_long(out, u64::from(number) + 1);
-}
-
-// An event begins.
-fn add_event<W: Write>(out: &mut Sink<W>, phase: &[u8], group: Group, number: u32, tick: u32)
-    ensures { Wrote W.contents out.old out.new (event phase.now group number tick) }
-{
-    out.add(b",\n{\"ph\":\"");
-    out.add(phase);
-    out.add(b"\",");
-    add_place(out, group, number);
-    out.add(b",\"ts\":");
-    add_number(out, tick);
-}
-
-// A slice ends.
-fn add_end<W: Write>(out: &mut Sink<W>, group: Group, number: u32, tick: u32)
-    ensures { Wrote W.contents out.old out.new (end_event group number tick) }
-{
-    add_event(out, b"E", group, number, tick);
-    out.add(b"}");
-}
-
-// The job that an event tells of, behind its name.
-fn add_job_args<W: Write>(out: &mut Sink<W>, plan: &Plan, job: JobId)
-    ensures { Wrote W.contents out.old out.new (job_args plan.now job) }
-{
-    out.add(b"\",\"args\":{\"job\":\"");
-    add_job(out, plan, Some(job));
-    out.add(b"\"}}");
-}
-
-// Whether a core's row is one of a job.
-fn works(row: Option<Row>) -> bool
-    ensures { result ≡ works row }
-{
-    match row {
-        None => false,
-        Some(row) => row.job.is_some(),
+/// Writes what a tick changes on a track.
+pub(crate) fn write_change(text: &mut String, change: &Change<'_>) -> Written {
+    let (before, now) = slices(change.states);
+    if before != now {
+        end_slice(text, change.track, change.tick, before)?;
+        begin_slice(text, change, now)?;
     }
-}
-
-// The slice of a core's last row ends, if it has one.
-fn add_row_end<W: Write>(out: &mut Sink<W>, tick: u32, core: CoreId, row: Option<Row>)
-    ensures { Wrote W.contents out.old out.new (row_end tick core.0 row) }
-{
-    if works(row) {
-        add_end(out, Group::Cores, core.0, tick);
-    }
-}
-
-// The slice of a core's row begins.
-fn add_row_event<W: Write>(out: &mut Sink<W>, plan: &Plan, tick: u32, core: CoreId, row: Row)
-    ensures { Wrote W.contents out.old out.new (row_event plan.now tick core.0 row) }
-{
-    add_event(out, b"B", Group::Cores, core.0, tick);
-    out.add(b",\"name\":\"");
-    add_job(out, plan, row.job);
-    out.add(b" ");
-    out.add(row.kind.word());
-    out.add(b"\",\"args\":{\"job\":\"");
-    add_job(out, plan, row.job);
-    out.add(b"\",\"kind\":\"");
-    out.add(row.kind.word());
-    out.add(b"\",\"resource\":\"");
-    out.add(res_or_dash(plan, row.res));
-    out.add(b"\"}}");
-}
-
-// The slice of a core's row begins, if it has one.
-fn add_row_begin<W: Write>(
-    out: &mut Sink<W>,
-    plan: &Plan,
-    tick: u32,
-    core: CoreId,
-    row: Option<Row>,
-)
-    ensures { Wrote W.contents out.old out.new (row_begin plan.now tick core.0 row) }
-{
-    let Some(row) = row else {
-        return;
-    };
-    if row.job.is_some() {
-        add_row_event(out, plan, tick, core, row);
-    }
-}
-
-/// What a core's last row changes, where this was the last one.
-pub(crate) fn add_core_change<W: Write>(
-    out: &mut Sink<W>,
-    plan: &Plan,
-    tick: u32,
-    core: CoreId,
-    before: Option<Row>,
-    now: Option<Row>,
-)
-    ensures { Wrote W.contents out.old out.new (core_change plan.now tick core.0 before now) }
-{
-    if !keeps_row(before, now) {
-        add_row_end(out, tick, core, before);
-        add_row_begin(out, plan, tick, core, now);
-    }
-}
-
-fn has_slice(state: TaskState) -> bool
-    ensures { result ≡ has_slice state }
-{
-    !matches!(state, TaskState::Unreleased)
-}
-
-// The slice of what a task did ends, if it has one.
-fn add_task_end<W: Write>(out: &mut Sink<W>, tick: u32, task: TaskId, before: Doing)
-    ensures { Wrote W.contents out.old out.new (task_end tick task.0 before) }
-{
-    if has_slice(before.state) {
-        add_end(out, Group::Tasks, task.0, tick);
-    }
-}
-
-// The slice of what a task does begins.
-fn add_task_event<W: Write>(out: &mut Sink<W>, plan: &Plan, tick: u32, task: TaskId, now: Doing)
-    ensures { Wrote W.contents out.old out.new (task_event plan.now tick task.0 now) }
-{
-    add_event(out, b"B", Group::Tasks, task.0, tick);
-    out.add(b",\"name\":\"");
-    out.add(state_word(now.state));
-    add_job_args(out, plan, now.job);
-}
-
-// The slice of what a task does begins, if it has one.
-fn add_task_begin<W: Write>(out: &mut Sink<W>, plan: &Plan, tick: u32, task: TaskId, now: Doing)
-    ensures { Wrote W.contents out.old out.new (task_begin plan.now tick task.0 now) }
-{
-    if has_slice(now.state) {
-        add_task_event(out, plan, tick, task, now);
-    }
-}
-
-// What changes of a task's slices.
-fn add_task_slices<W: Write>(
-    out: &mut Sink<W>,
-    plan: &Plan,
-    tick: u32,
-    task: TaskId,
-    before: Doing,
-    now: Doing,
-)
-    ensures { Wrote W.contents out.old out.new (task_slices plan.now tick task.0 before now) }
-{
-    if !same_doing(before, now) {
-        add_task_end(out, tick, task, before);
-        add_task_begin(out, plan, tick, task, now);
-    }
-}
-
-// Whether a task's job is late, and wasn't in the tick before.
-fn is_newly_late(before: Doing, now: Doing) -> bool
-    ensures { result ≡ is_newly_late before now }
-{
-    now.late && !(before.late && same_job(before.job, now.job))
-}
-
-fn add_late_event<W: Write>(out: &mut Sink<W>, plan: &Plan, tick: u32, task: TaskId, now: Doing)
-    ensures { Wrote W.contents out.old out.new (late_event plan.now tick task.0 now) }
-{
-    add_event(out, b"i", Group::Tasks, task.0, tick);
-    out.add(b",\"s\":\"t\",\"name\":\"deadline missed");
-    add_job_args(out, plan, now.job);
-}
-
-// A deadline that is missed.
-fn add_late_instant<W: Write>(
-    out: &mut Sink<W>,
-    plan: &Plan,
-    tick: u32,
-    task: TaskId,
-    before: Doing,
-    now: Doing,
-)
-    ensures { Wrote W.contents out.old out.new (late_instant plan.now tick task.0 before now) }
-{
-    if is_newly_late(before, now) {
-        add_late_event(out, plan, tick, task, now);
-    }
-}
-
-// An end of the arrow of the request that a task makes once it has done this work.
-fn add_arrow_event<W: Write>(
-    out: &mut Sink<W>,
-    plan: &Plan,
-    phase: &[u8],
-    tick: u32,
-    task: TaskId,
-    work: u32,
-)
-    requires { task.0 < length plan.now.tasks }
-    ensures { Wrote W.contents out.old out.new (arrow_event plan.now phase.now tick task.0 work) }
-{
-    add_event(out, phase, Group::Cores, plan.core_of(task).0, tick);
-    out.add(b",\"id\":");
-    add_long(out, u64::from(work) * 64 + u64::from(task.0));
-    out.add(b",\"cat\":\"request\",\"name\":\"request\"");
-}
-
-// The beginning of an arrow at a request that joins a queue, or its end at the grant.
-fn add_arrow_part<W: Write>(
-    out: &mut Sink<W>,
-    plan: &Plan,
-    tick: u32,
-    task: TaskId,
-    kind: Kind,
-    work: u32,
-)
-    requires { task.0 < length plan.now.tasks }
-    ensures { Wrote W.contents out.old out.new (arrow_part plan.now tick task.0 kind work) }
-{
-    match kind {
-        Kind::Queue => {
-            add_arrow_event(out, plan, b"s", tick, task, work);
-            out.add(b"}");
+    match change.states {
+        States::Task(before, now) => {
+            if is_newly_late(before, now) {
+                write_missed_deadline(text, change, now.job)?;
+            }
+            write_arrow(text, change, now)
         }
-        Kind::Grant => {
-            add_arrow_event(out, plan, b"f", tick, task, work);
-            out.add(b",\"bp\":\"e\"}");
-        }
-        _ => (),
+        _ => Ok(()),
     }
 }
 
-// What a task's row, if it has one, is of an arrow.
-fn add_arrow<W: Write>(out: &mut Sink<W>, plan: &Plan, tick: u32, task: TaskId, now: Doing)
-    requires { task.0 < length plan.now.tasks }
-    ensures { Wrote W.contents out.old out.new (arrow plan.now tick task.0 now.kind now.work) }
-{
-    if let Some(kind) = now.kind {
-        add_arrow_part(out, plan, tick, task, kind, now.work);
-    }
+// Whether the job reaches its deadline, or the task comes to a job that is past its deadline.
+fn is_newly_late(before: Option<TaskStatus>, now: TaskStatus) -> bool {
+    let was_late = matches!(before, Some(before) if before.late && before.job == now.job);
+    now.late && !was_late
 }
 
-/// What a tick changes of a task.
-pub(crate) fn add_task_change<W: Write>(
-    out: &mut Sink<W>,
-    plan: &Plan,
-    tick: u32,
-    task: TaskId,
-    before: Doing,
-    now: Doing,
-)
-    requires { task.0 < length plan.now.tasks }
-    ensures { Wrote W.contents out.old out.new (task_change plan.now tick task.0 before now) }
-{
-    add_task_slices(out, plan, tick, task, before, now);
-    add_late_instant(out, plan, tick, task, before, now);
-    add_arrow(out, plan, tick, task, now);
+/// Ends the slice that is open on a track, if there is one.
+pub(crate) fn write_end(text: &mut String, change: &Change<'_>, time: u32) -> Written {
+    end_slice(text, change.track, time, slices(change.states).0)
 }
 
-// The slice of a holder ends, if there is one.
-fn add_holder_end<W: Write>(out: &mut Sink<W>, tick: u32, res: ResId, before: Option<JobId>)
-    ensures { Wrote W.contents out.old out.new (holder_end tick res.0 before) }
-{
-    if before.is_some() {
-        add_end(out, Group::Resources, res.0, tick);
-    }
-}
-
-fn add_holder_event<W: Write>(out: &mut Sink<W>, plan: &Plan, tick: u32, res: ResId, job: JobId)
-    ensures { Wrote W.contents out.old out.new (holder_event plan.now tick res.0 job) }
-{
-    add_event(out, b"B", Group::Resources, res.0, tick);
-    out.add(b",\"name\":\"");
-    add_job(out, plan, Some(job));
-    add_job_args(out, plan, job);
-}
-
-// The slice of a holder begins, if there is one.
-fn add_holder_begin<W: Write>(
-    out: &mut Sink<W>,
-    plan: &Plan,
-    tick: u32,
-    res: ResId,
-    now: Option<JobId>,
-)
-    ensures { Wrote W.contents out.old out.new (holder_begin plan.now tick res.0 now) }
-{
-    if let Some(job) = now {
-        add_holder_event(out, plan, tick, res, job);
-    }
-}
-
-/// What a tick changes of a resource.
-pub(crate) fn add_res_change<W: Write>(
-    out: &mut Sink<W>,
-    plan: &Plan,
-    tick: u32,
-    res: ResId,
-    before: ResState,
-    now: ResState,
-)
-    ensures { Wrote W.contents out.old out.new (res_change plan.now tick res.0 before now) }
-{
-    if !same_choice(before.holder, now.holder) {
-        add_holder_end(out, tick, res, before.holder);
-        add_holder_begin(out, plan, tick, res, now.holder);
-    }
-}
-
-// The slice of a core, of a task or of a resource ends, if one is open when a tick begins.
-fn add_slice_end<W: Write>(
-    out: &mut Sink<W>,
-    plan: &Plan,
-    recent: &Recent,
-    tick: u32,
-    time: u32,
-    group: Group,
-    number: u32,
-)
-    requires plan { IsPlan plan.now }
-    requires number { number < count_of plan.now group }
-    ensures { (rows : List TraceRow) → TellsTick plan.now rows tick recent.now → Wrote W.contents out.old out.new (slice_end plan.now rows tick time group number) }
-{
-    match group {
-        Group::Cores => {
-            let last = recent.before.last(CoreId(number));
-            add_row_end(out, time, CoreId(number), last);
-        }
-        Group::Tasks => {
-            let before = doing_before(plan, recent, tick, TaskId(number));
-            add_task_end(out, time, TaskId(number), before);
-        }
-        Group::Resources => {
-            let holder = recent.before.res_state(ResId(number)).holder;
-            add_holder_end(out, time, ResId(number), holder);
-        }
-    }
-}
-
-// The slices of all of a group end.
-fn add_slice_ends<W: Write>(
-    out: &mut Sink<W>,
-    plan: &Plan,
-    recent: &Recent,
-    tick: u32,
-    time: u32,
-    group: Group,
-)
-    ensures { (rows : List TraceRow) → TellsTick plan.now rows tick recent.now → Wrote W.contents out.old out.new (each_of plan.now (slice_end plan.now rows tick time) group) }
-{
-    for number in 0..count_of(plan, group) {
-        add_slice_end(out, plan, recent, tick, time, group, number);
-    }
-}
-
-/// Writes the end: each slice that is still open ends at this time.
-#[tactic(auto, unfolding(crate::specs::Perfetto::ends_text))]
-pub(crate) fn add_ends<W: Write>(
-    out: &mut Sink<W>,
-    plan: &Plan,
-    recent: &Recent,
-    tick: u32,
-    time: u32,
-)
-    ensures { (rows : List TraceRow) → TellsTick plan.now rows tick recent.now → Wrote W.contents out.old out.new (ends_text plan.now rows tick time) }
-{
-    add_slice_ends(out, plan, recent, tick, time, Group::Cores);
-    add_slice_ends(out, plan, recent, tick, time, Group::Tasks);
-    add_slice_ends(out, plan, recent, tick, time, Group::Resources);
-    out.add(b"\n]}\n");
-}
-
-// What stands before the name of a track: a core's number needs a word.
-#[tactic(auto, unfolding(crate::specs::Perfetto::title))]
-fn title(group: Group) -> &'static [u8]
-    ensures { result.now ≡ title group }
-{
-    match group {
-        Group::Cores => b"core ",
-        _ => b"",
-    }
-}
-
-/// A track is named, and stands in the order of numbers.
-pub(crate) fn add_track<W: Write>(out: &mut Sink<W>, plan: &Plan, group: Group, number: u32)
-    ensures { Wrote W.contents out.old out.new (track plan.now group number) }
-{
-    out.add(b",\n{\"ph\":\"M\",");
-    add_place(out, group, number);
-    out.add(b",\"name\":\"thread_name\",\"args\":{\"name\":\"");
-    out.add(title(group));
-    add_name(out, plan, group, number);
-    out.add(b"\"}},\n{\"ph\":\"M\",");
-    add_place(out, group, number);
-    out.add(b",\"name\":\"thread_sort_index\",\"args\":{\"sort_index\":");
-    add_number(out, number);
-    out.add(b"}}");
-}
-
-/// Writes the rule that is broken in a tick, and by which row, if there is one.
-pub(crate) fn add_broken<W: Write>(
-    out: &mut Sink<W>,
+/// Writes the rule that is violated in a tick, and the row that violates it.
+pub(crate) fn write_fault(
+    text: &mut String,
     plan: &Plan,
     tick: u32,
     rule: Rule,
     row: Option<Row>,
-)
-    ensures { Wrote W.contents out.old out.new (broken_text plan.now tick rule row) }
-{
-    out.add(
-        b",\n{\"ph\":\"M\",\"pid\":400,\"name\":\"process_name\",\"args\":{\"name\":\"verdict\"}},\n{\"ph\":\"i\",\"pid\":400,\"tid\":1,\"ts\":",
-    );
-    add_number(out, tick);
-    out.add(b",\"s\":\"g\",\"name\":\"fault ");
-    out.add(rule.code());
-    out.add(b"\",\"args\":{\"rule\":\"");
-    out.add(rule.code());
-    out.add(b"\",\"row\":\"");
-    add_faulty(out, plan, row);
-    out.add(b"\"}}");
+) -> Written {
+    let rule = rule.code().as_bstr();
+    let row = FaultyRow(plan, row);
+    text.push_str(",\n")?;
+    text.push_str(r#"{"ph":"M","pid":400,"name":"process_name","args":{"name":"verdict"}}"#)?;
+    text.push_str(",\n")?;
+    write!(
+        text,
+        r#"{{"ph":"i","pid":400,"tid":1,"ts":{tick},"s":"g","name":"fault {rule}","args":{{"rule":"{rule}","row":"{row}"}}}}"#
+    )
+}
+
+// The slices that are open in the tick before and in the tick.
+fn slices(states: States) -> (Option<Slice>, Option<Slice>) {
+    match states {
+        States::Core(before, now) => (action_slice(before), action_slice(now)),
+        States::Task(before, now) => (state_slice(before), state_slice(Some(now))),
+        States::Resource(before, now) => (holder_slice(before), holder_slice(Some(now))),
+    }
+}
+
+fn action_slice(action: Option<CoreAction>) -> Option<Slice> {
+    action
+        .filter(|action| action.job.is_some())
+        .map(Slice::Action)
+}
+
+fn state_slice(status: Option<TaskStatus>) -> Option<Slice> {
+    let status = status?;
+    match status.state {
+        TaskState::Unreleased => None,
+        state => Some(Slice::State(state, status.job)),
+    }
+}
+
+fn holder_slice(state: Option<ResourceState>) -> Option<Slice> {
+    Some(Slice::Holder(state?.holder?))
+}
+
+// Begins an event on a track, with its phase. Viewers take thread 0 for no thread.
+fn begin_event(text: &mut String, phase: char, track: Track) -> Written {
+    let process = match track.group {
+        Group::Cores => 100u32,
+        Group::Tasks => 200,
+        Group::Resources => 300,
+    };
+    let thread = u64::from(track.number) + 1;
+    text.push_str(",\n")?;
+    write!(text, r#"{{"ph":"{phase}","pid":{process},"tid":{thread}"#)
+}
+
+fn begin_event_at(text: &mut String, phase: char, track: Track, tick: u32) -> Written {
+    begin_event(text, phase, track)?;
+    write!(text, r#","ts":{tick}"#)
+}
+
+// Writes the name of an event, and the job that it is about.
+fn end_event(text: &mut String, name: &str, job: JobName<'_>) -> Written {
+    write!(text, r#","name":"{name}","args":{{"job":"{job}"}}}}"#)
+}
+
+fn end_slice(text: &mut String, track: Track, tick: u32, slice: Option<Slice>) -> Written {
+    if slice.is_none() {
+        return Ok(());
+    }
+    begin_event_at(text, 'E', track, tick)?;
+    text.push_str("}")
+}
+
+fn begin_slice(text: &mut String, change: &Change<'_>, slice: Option<Slice>) -> Written {
+    let Some(slice) = slice else {
+        return Ok(());
+    };
+    let plan = change.plan;
+    begin_event_at(text, 'B', change.track, change.tick)?;
+    match slice {
+        Slice::Action(action) => {
+            let job = JobName(plan, action.job);
+            let resource = resource_name(plan, action.resource);
+            let action = action.kind.word().as_bstr();
+            write!(
+                text,
+                r#","name":"{job} {action}","args":{{"job":"{job}","action":"{action}","resource":"{resource}"}}}}"#
+            )
+        }
+        Slice::State(state, job) => end_event(text, state_name(state), JobName(plan, Some(job))),
+        Slice::Holder(job) => {
+            let job = JobName(plan, Some(job));
+            write!(text, r#","name":"{job}","args":{{"job":"{job}"}}}}"#)
+        }
+    }
+}
+
+fn write_missed_deadline(text: &mut String, change: &Change<'_>, job: JobId) -> Written {
+    begin_event_at(text, 'i', change.track, change.tick)?;
+    text.push_str(r#","s":"t""#)?;
+    end_event(text, "deadline missed", JobName(change.plan, Some(job)))
+}
+
+// Each request has an arrow of its own: its number is made of the task and the units that the task
+// had done.
+fn arrow_id(work: u32, task: u32) -> u64 {
+    u64::from(work) * 64 + u64::from(task)
+}
+
+// Writes the beginning of an arrow at a request that joins a queue, or its end at the grant.
+fn write_arrow(text: &mut String, change: &Change<'_>, now: TaskStatus) -> Written {
+    let Some(row) = now.row else {
+        return Ok(());
+    };
+    let (phase, end) = match row.kind {
+        Kind::Queue => ('s', "}"),
+        Kind::Grant => ('f', r#","bp":"e"}"#),
+        _ => return Ok(()),
+    };
+    let track = Track {
+        group: Group::Cores,
+        number: row.core.0,
+    };
+    let id = arrow_id(now.work, change.track.number);
+    begin_event_at(text, phase, track, change.tick)?;
+    write!(text, r#","id":{id},"cat":"request","name":"request"{end}"#)
 }

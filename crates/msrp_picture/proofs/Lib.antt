@@ -1,4 +1,3 @@
 pub mod Growing
-pub mod Depths
 pub mod Marking
 pub mod Claims

@@ -1,375 +1,422 @@
-//! The one writer of shapes: elements of SVG, as text, with what each tells where one points at it.
-ghost use Rattle.std.specs.Prelude.{◌≡◌, ◌++◌};
-ghost use Rattle.msrp_plan.specs.Common.{OnOk, decimal, flat_map, task_at};
-ghost use Rattle.msrp_picture.specs.Elements.{arrow_text, attribute, block_head, block_text, colour, core_text, deed_text, event_title, first_text, held_name, job_name, job_told, look_class, look_told, moment_text, note_text, res_told, roomy_text, shade, shape_text, span_title, title_text, whose_told, word_text, words_class, words_text};
+//! A picture in SVG (W3C, 2011): an element for each shape.
 
 use crate::Added;
-use crate::cells::{letter, sign};
-use crate::picture::{add, add_number, res_name};
-use crate::places::left_of;
-use crate::shapes::{Event, Look, Moment, Note, Shape, Span, Words};
-use crate::windows::Window;
-use itoa::Buffer;
-use msrp_plan::{CoreId, JobId, Kind, Plan, ResId, Rule, TaskId};
+use crate::layout::{LEFT, Layout, Room};
+use crate::scene::Scene;
+use crate::shapes::{Block, Event, Lane, Look, Moment, Shapes, Violation};
+use crate::words::{
+    block_title, drawn_ticks, event_title, res_name, task_name, verdict, violation_title,
+};
+use msrp_plan::{CoreId, JobId, Kind, Memory, Plan, ResId, TaskId};
+use std::fmt::Display;
 
-/// So many colours there are for tasks.
-pub const HUES: u32 = 7;
+/// The least width of a picture: that of its caption and legend.
+const LEAST_WIDTH: u64 = 840;
 
-#[tactic(auto, unfolding(crate::specs::Elements::attribute))]
-pub(crate) fn add_attribute(text: &mut Vec<u8>, name: &[u8], length: u64) -> Added
-    ensures { OnOk result (text.new.items ≡ text.old.items ++ attribute name.now length) }
-{
-    add(text, b" ")?;
-    add(text, name)?;
-    add(text, b"=\"")?;
-    add_number(text, length)?;
-    add(text, b"\"")
-}
+// A picture of more width has the names of lanes on both sides.
+const WIDE: u64 = 1500;
 
-// The class that makes a block look so.
-#[tactic(auto, unfolding(crate::specs::Elements::look_class))]
-fn look_class(look: Look) -> &'static [u8]
-    ensures { result.now ≡ look_class look }
-{
-    match look {
-        Look::Lane => b"lane",
-        Look::Does(kind) => kind.word(),
-        Look::Turn => b"turn",
-        Look::Holds => b"holds",
-        Look::First(_) => b"first",
-        Look::Life(_) => b"life",
-        Look::Late => b"late",
-        Look::Ceiling(_) => b"ceiling",
-        Look::Breaks(_) => b"breaks",
+// The room of a character of a label, with some to spare, and the least height of a labelled block.
+const CHARACTER: u64 = 7;
+
+const LABEL_HEIGHT: u64 = 12;
+
+// The parts of a task's lane.
+const LIFE: Room = Room { top: 8, height: 2 };
+
+const LATE: Room = Room { top: 50, height: 4 };
+
+const SECTIONS: Room = Room {
+    top: 18,
+    height: 32,
+};
+
+// So many colours there are for resources, which tell the colour-blind apart too (Okabe and Ito 2008, lightened).
+const COLOURS: u32 = 7;
+
+const STYLE: &str =
+    "<style>text{font:10px monospace}.label{font-size:11px;font-weight:bold}.name{text-anchor:end}.tick{fill:#444;text-anchor:middle}\
+.level{fill:#444}.caption{font-size:12px}.rule{fill:#b00;font-weight:bold}rect{fill:#fff;stroke:#666;stroke-width:.7}.lane{stroke:#ccc}\
+.runs rect,.works rect{fill:#e2e6ea}.waits rect{fill:url(#hatch)}.life rect{fill:#666;stroke:none}.late rect{fill:#b00;stroke:none}\
+.ceiling rect{fill:#ddd}.r0 rect{fill:#eebc4d}.r1 rect{fill:#89cbf0}.r2 rect{fill:#4dbb9d}.r3 rect{fill:#f4ec7b}.r4 rect{fill:#4d9cc9}\
+.r5 rect{fill:#e28e4d}.r6 rect{fill:#dba1c1}.after{opacity:.35}.breaks rect{fill:none;stroke:#b00;stroke-width:3}\
+path,use{fill:none;stroke:#000;stroke-width:1.4}use{pointer-events:all}</style>\n\
+<defs><path id='release' d='M0 0V-13M-3 -9L0 -13L3 -9'/><path id='deadline' d='M0 -13V0M-3 -4L0 0L3 -4'/><path id='completion' d='M-4 -6H4M0 -6V0'/>\
+<pattern id='hatch' width='5' height='5' patternUnits='userSpaceOnUse' patternTransform='rotate(45)'><rect width='5' height='5' style='stroke:none'/>\
+<path d='M1 0V5' style='stroke:#bbb'/></pattern></defs>\n";
+
+const LEGEND: &str =
+    "<g class='works'><rect x='20' y='56' width='16' height='10'/></g><text x='40' y='65'>J0: job 0 runs</text>\
+<g class='waits'><rect x='140' y='56' width='16' height='10'/></g><text x='160' y='65'>spins</text>\
+<g class='r0'><rect x='206' y='56' width='16' height='10'/></g><text x='226' y='65'>critical section</text>\
+<g class='life'><rect x='338' y='60' width='16' height='2'/></g><text x='358' y='65'>released, not running</text>\
+<g class='late'><rect x='500' y='59' width='16' height='4'/></g><text x='520' y='65'>late</text>\
+<g class='ceiling'><rect x='560' y='56' width='16' height='10'/></g><text x='580' y='65'>ceiling of the core</text>\n\
+<use href='#release' x='28' y='88'/><text x='40' y='86'>release</text><use href='#deadline' x='108' y='88'/><text x='120' y='86'>absolute deadline</text>\
+<use href='#completion' x='248' y='86'/><text x='260' y='86'>completion</text>\
+<g class='r1'><rect x='340' y='77' width='16' height='10'/></g><text x='360' y='86'>first in the queue of a resource, +n: n wait behind it</text>\n";
+
+// What makes a block look so: colours are those of resources.
+fn class_of(block: &Block) -> (&'static str, Option<ResId>) {
+    match block.look {
+        Look::Runs => ("runs", None),
+        Look::Does(Kind::Queue | Kind::Spin) => ("waits", None),
+        Look::Does(_) => ("works", None),
+        Look::Holds => ("holds", block.res),
+        Look::First(_) => ("first", block.res),
+        Look::Life(_) => ("life", None),
+        Look::Late => ("late", None),
+        Look::Ceiling(_) => ("ceiling", None),
     }
 }
 
-// Behind it, where it stands behind a row that breaks a rule.
-#[tactic(auto, unfolding(crate::specs::Elements::shade))]
-fn shade(is_legal: bool) -> &'static [u8]
-    ensures { result.now ≡ shade is_legal }
-{
-    if is_legal { b"" } else { b" after" }
-}
-
-// The class that gives a block the colour of its job's task, if nothing else is shown.
-fn add_colour(text: &mut Vec<u8>, look: Look, job: Option<JobId>) -> Added
-    ensures { OnOk result (text.new.items ≡ text.old.items ++ colour job look) }
-{
-    match (look, job) {
-        (Look::Does(_) | Look::Turn | Look::First(_) | Look::Life(_), Some(job)) => {
-            add(text, &[letter(TaskId(job.task.0 % HUES))])
-        }
-        _ => Ok(()),
-    }
-}
-
-fn add_block_head(text: &mut Vec<u8>, window: Window, span: &Span) -> Added
-    ensures { OnOk result (text.new.items ≡ text.old.items ++ block_head window span.now) }
-{
-    let left = left_of(window, span.first);
-    let width = left_of(window, span.end).saturating_sub(left);
-    add(text, b"<svg class=\"")?;
-    add(text, look_class(span.look))?;
-    add(text, shade(span.is_legal))?;
-    add(text, b"\"")?;
-    add_attribute(text, b"x", left)?;
-    add_attribute(text, b"y", span.room.top)?;
-    add_attribute(text, b"width", width)?;
-    add_attribute(text, b"height", span.room.height)?;
-    add(text, b">")
-}
-
-// A block: its area in its colour and in its look, with what stands in it.
-fn add_block(text: &mut Vec<u8>, plan: &Plan, window: Window, span: &Span) -> Added
-    ensures { OnOk result (text.new.items ≡ text.old.items ++ block_text plan.now window span.now) }
-{
-    let width = left_of(window, span.end).saturating_sub(left_of(window, span.first));
-    add_block_head(text, window, span)?;
-    add_title(text, plan, span)?;
-    add(text, b"<rect class=\"")?;
-    add_colour(text, span.look, span.job)?;
-    add(
-        text,
-        b"\" width=\"100%\" height=\"100%\"/><rect width=\"100%\" height=\"100%\"/><text x=\"1\" y=\"1em\">",
-    )?;
-    add_word(text, plan, width, span)?;
-    add(text, b"</text></svg>\n")
-}
-
-// An arrow: a symbol of the head.
-fn add_arrow(text: &mut Vec<u8>, plan: &Plan, window: Window, event: &Event) -> Added
-    ensures { OnOk result (text.new.items ≡ text.old.items ++ arrow_text plan.now window event.now) }
-{
-    add(text, b"<use href=\"#")?;
-    add(text, moment_word(event.moment))?;
-    add(text, b"\"")?;
-    add_attribute(text, b"x", left_of(window, event.tick))?;
-    add_attribute(text, b"y", event.top)?;
-    add(text, b">")?;
-    add_event_title(text, plan, event)?;
-    add(text, b"</use>\n")
-}
-
-#[tactic(auto, unfolding(crate::specs::Elements::words_class))]
-fn words_class(words: Words) -> &'static [u8]
-    ensures { result.now ≡ words_class words }
-{
-    match words {
-        Words::Tick(_) => b"tick",
-        Words::Broken(_) => b"rule",
-        Words::Level(..) | Words::Ceiling => b"level",
-        _ => b"label",
-    }
-}
-
-#[tactic(auto, unfolding(crate::specs::Elements::core_text))]
-fn add_core(text: &mut Vec<u8>, core: CoreId) -> Added
-    ensures { OnOk result (text.new.items ≡ text.old.items ++ core_text core) }
-{
-    add(text, b"core ")?;
-    add_number(text, core.0 as u64)
-}
-
-fn add_words(text: &mut Vec<u8>, plan: &Plan, words: Words) -> Added
-    ensures { OnOk result (text.new.items ≡ text.old.items ++ words_text plan.now words) }
-{
-    match words {
-        Words::Core(core) => add_core(text, core),
-        Words::Task(task) => add(text, task_name(plan, task)),
-        Words::Level(core, level) => {
-            add_core(text, core)?;
-            add(text, b", level ")?;
-            add_number(text, level as u64)
-        }
-        Words::Ceiling => add(text, b"ceiling"),
-        Words::Res(res) => add(text, res_name(plan, res)),
-        Words::Tick(tick) => add_number(text, tick),
-        Words::Broken(rule) => add(text, rule.code()),
-    }
-}
-
-fn add_note(text: &mut Vec<u8>, plan: &Plan, note: &Note) -> Added
-    ensures { OnOk result (text.new.items ≡ text.old.items ++ note_text plan.now note.now) }
-{
-    add(text, b"<text class=\"")?;
-    add(text, words_class(note.words))?;
-    add(text, b"\"")?;
-    add_attribute(text, b"x", note.left)?;
-    add_attribute(text, b"y", note.line)?;
-    add(text, b">")?;
-    add_words(text, plan, note.words)?;
-    add(text, b"</text>\n")
-}
-
-fn add_shape(text: &mut Vec<u8>, plan: &Plan, window: Window, shape: &Shape) -> Added
-    ensures { OnOk result (text.new.items ≡ text.old.items ++ shape_text plan.now window shape.now) }
-{
-    match shape {
-        Shape::Block(span) => add_block(text, plan, window, span),
-        Shape::Arrow(event) => add_arrow(text, plan, window, event),
-        Shape::Text(note) => add_note(text, plan, note),
-    }
-}
-
-pub(crate) fn add_shapes(text: &mut Vec<u8>, plan: &Plan, window: Window, shapes: &[Shape]) -> Added
-    ensures { OnOk result (text.new.items ≡ text.old.items ++ flat_map (shape_text plan.now window) shapes.now) }
-{
-    for shape in shapes {
-        add_shape(text, plan, window, shape)?;
-    }
-    Ok(())
-}
-
-/// The room of a sign in a block.
-pub const SIGN_ROOM: u64 = 8;
-
-/// The room of a digit.
-pub const DIGIT_WIDTH: u64 = 6;
-
-#[tactic(auto, unfolding(crate::specs::Elements::moment_text))]
-pub(crate) fn moment_word(moment: Moment) -> &'static [u8]
-    ensures { result.now ≡ moment_text moment }
-{
-    match moment {
-        Moment::Release => b"release",
-        Moment::Deadline => b"deadline",
-    }
-}
-
-/// The name of a task; nothing where the plan has no such one.
-pub(crate) fn task_name(plan: &Plan, task: TaskId) -> &[u8]
-    ensures { result.now ≡ (task_at plan.now task.0).name }
-{
-    if task.0 < plan.tasks() {
-        plan.task_name(task).as_bytes()
-    } else {
-        b""
-    }
-}
-
-fn job_name(plan: &Plan, job: Option<JobId>) -> &[u8]
-    ensures { result.now ≡ job_name plan.now job }
-{
+// The name of a job's task.
+fn name_of(plan: &Plan, job: Option<JobId>) -> &str {
     match job {
         Some(job) => task_name(plan, job.task),
-        None => b"",
+        None => "",
     }
 }
 
-fn held_name(plan: &Plan, res: Option<ResId>) -> &[u8]
-    ensures { result.now ≡ held_name plan.now res }
-{
-    match res {
-        Some(res) => res_name(plan, res),
-        None => b"",
+// The words in a block.
+fn label_of(scene: &Scene<'_>, block: &Block) -> Result<String, Memory> {
+    let (alloc, name) = (scene.alloc, name_of(scene.plan, block.job));
+    let label = match (block.look, block.job, block.res) {
+        (Look::Does(_), Some(job), _) => format!(in alloc; "J{}", job.k)?,
+        (Look::Holds, _, Some(res)) => format!(in alloc; "{}", res_name(scene.plan, res))?,
+        (Look::Runs | Look::First(0), _, _) => format!(in alloc; "{name}")?,
+        (Look::First(waiting), _, _) => format!(in alloc; "{name} +{waiting}")?,
+        (Look::Ceiling(level), _, _) => format!(in alloc; "{level}")?,
+        _ => String::new(alloc),
+    };
+    Ok(label)
+}
+
+fn symbol(moment: Moment) -> &'static str {
+    match moment {
+        Moment::Release => "release",
+        Moment::Deadline => "deadline",
+        Moment::Completion => "completion",
     }
 }
 
-#[tactic(auto, unfolding(crate::specs::Elements::job_told))]
-fn add_job_told(text: &mut Vec<u8>, plan: &Plan, job: JobId) -> Added
-    ensures { OnOk result (text.new.items ≡ text.old.items ++ job_told plan.now job) }
-{
-    add(text, task_name(plan, job.task))?;
-    add(text, b", job ")?;
-    add_number(text, job.k as u64)
+// The line on which words are in a room.
+fn baseline(room: Room) -> u64 {
+    room.top.saturating_add(room.height.min(18) / 2 + 4)
 }
 
-#[tactic(auto, unfolding(crate::specs::Elements::whose_told))]
-fn add_whose_told(text: &mut Vec<u8>, plan: &Plan, job: Option<JobId>) -> Added
-    ensures { OnOk result (text.new.items ≡ text.old.items ++ whose_told plan.now job) }
-{
-    match job {
-        Some(job) => {
-            add_job_told(text, plan, job)?;
-            add(text, b", ")
-        }
-        None => Ok(()),
+// The lane of a row: that of its task, and else that of its core.
+fn lane_of(violation: &Violation) -> Lane {
+    match violation.row.job {
+        Some(job) => Lane::Task(job.task),
+        None => Lane::Core(violation.row.core),
     }
 }
 
-#[tactic(auto, unfolding(crate::specs::Elements::res_told))]
-fn add_res_told(text: &mut Vec<u8>, plan: &Plan, res: Option<ResId>) -> Added
-    ensures { OnOk result (text.new.items ≡ text.old.items ++ res_told plan.now res) }
-{
-    match res {
-        Some(res) => {
-            add(text, b" ")?;
-            add(text, res_name(plan, res))
-        }
-        None => Ok(()),
-    }
-}
-
-fn add_counted(text: &mut Vec<u8>, before: &[u8], number: u64, behind: &[u8]) -> Added
-    ensures { OnOk result (text.new.items ≡ text.old.items ++ (before.now ++ decimal number ++ behind.now)) }
-{
-    add(text, before)?;
-    add_number(text, number)?;
-    add(text, behind)
-}
-
-#[tactic(auto, unfolding(crate::specs::Elements::look_told))]
-fn add_look_told(text: &mut Vec<u8>, look: Look) -> Added
-    ensures { OnOk result (text.new.items ≡ text.old.items ++ look_told look) }
-{
-    match look {
-        Look::Lane => Ok(()),
-        Look::Does(kind) => add(text, kind.word()),
-        Look::Turn => add(text, b"has the turn of its core"),
-        Look::Holds => add(text, b"holds"),
-        Look::First(behind) => add_counted(text, b"ahead of ", behind, b" in the queue of"),
-        Look::Life(true) => add(text, b"from its release to its end"),
-        Look::Life(false) => add(text, b"from its release on, not finished"),
-        Look::Late => add(text, b"behind its absolute deadline"),
-        Look::Ceiling(level) => add_counted(text, b"ceiling ", level as u64, b""),
-        Look::Breaks(rule) => {
-            add(text, b"breaks rule ")?;
-            add(text, rule.code())
-        }
-    }
-}
-
-fn add_span_title(text: &mut Vec<u8>, plan: &Plan, span: &Span) -> Added
-    ensures { OnOk result (text.new.items ≡ text.old.items ++ span_title plan.now span.now) }
-{
-    add_counted(text, b"<title>ticks ", span.first, b" to ")?;
-    add_number(text, span.end.saturating_sub(1))?;
-    add(text, b": ")?;
-    add_whose_told(text, plan, span.job)?;
-    add_look_told(text, span.look)?;
-    add_res_told(text, plan, span.res)?;
-    add(text, b"</title>")
-}
-
-/// Adds what a block tells: the background of a lane tells nothing.
-pub(crate) fn add_title(text: &mut Vec<u8>, plan: &Plan, span: &Span) -> Added
-    ensures { OnOk result (text.new.items ≡ text.old.items ++ title_text plan.now span.now span.now.look) }
-{
-    match span.look {
-        Look::Lane => Ok(()),
-        _ => add_span_title(text, plan, span),
-    }
-}
-
-#[tactic(auto, unfolding(crate::specs::Elements::event_title))]
-pub(crate) fn add_event_title(text: &mut Vec<u8>, plan: &Plan, event: &Event) -> Added
-    ensures { OnOk result (text.new.items ≡ text.old.items ++ event_title plan.now event.now) }
-{
-    add(text, b"<title>")?;
-    add(text, moment_word(event.moment))?;
-    add(text, b" at ")?;
-    add_number(text, event.tick)?;
-    add(text, b": ")?;
-    add_job_told(text, plan, event.job)?;
-    add(text, b"</title>")
-}
-
-#[tactic(auto, unfolding(crate::specs::Elements::deed_text))]
-fn add_deed(text: &mut Vec<u8>, width: u64, kind: Kind, job: Option<JobId>) -> Added
-    ensures { OnOk result (text.new.items ≡ text.old.items ++ deed_text width kind job) }
-{
-    add(text, &[sign(kind)])?;
-    match job {
-        Some(job) => add_roomy(text, width.saturating_sub(SIGN_ROOM), job.k as u64),
-        None => Ok(()),
-    }
-}
-
-fn add_roomy(text: &mut Vec<u8>, width: u64, number: u64) -> Added
-    ensures { OnOk result (text.new.items ≡ text.old.items ++ roomy_text width number) }
-{
-    let mut digits = Buffer::new();
-    let digits = digits.format(number).as_bytes();
-    if digits.len() as u64 * DIGIT_WIDTH <= width {
-        add(text, digits)
+// The preemption level of a task; 0 where the plan has no such task.
+fn level_of(scene: &Scene<'_>, task: TaskId) -> u32 {
+    if task.0 < scene.plan.tasks() {
+        scene.levels.level(task)
     } else {
+        0
+    }
+}
+
+// A picture that is being written.
+#[derive(Drop)]
+struct Canvas<'a> {
+    scene: &'a Scene<'a>,
+    layout: Layout,
+    text: String,
+    // The lane of the last critical section, and the ends of those that are open in it.
+    last: Option<Lane>,
+    ends: Vec<u64>,
+}
+
+impl<'a> Canvas<'a> {
+    fn note<T: Display>(&mut self, class: &str, x: u64, y: u64, words: &T) -> Added {
+        writeln!(
+            self.text,
+            "<text class=\"{class}\" x=\"{x}\" y=\"{y}\">{words}</text>"
+        )?;
+        Ok(())
+    }
+
+    fn rect(&mut self, x: u64, width: u64, room: Room) -> Added {
+        let Room { top, height } = room;
+        write!(
+            self.text,
+            "<rect x=\"{x}\" y=\"{top}\" width=\"{width}\" height=\"{height}\"/>"
+        )?;
+        Ok(())
+    }
+
+    // In how many open sections of its lane a critical section is.
+    fn depth(&mut self, section: &Block) -> Result<u64, Memory> {
+        if self.last != Some(section.lane) {
+            self.last = Some(section.lane);
+            self.ends.clear();
+        }
+        self.ends.retain(|end| *end > section.first);
+        let depth = self.ends.len() as u64;
+        self.ends.push(section.end)?;
+        Ok(depth)
+    }
+
+    // The place of a critical section in its lane: below those that it is in.
+    fn section(&mut self, section: &Block) -> Result<Room, Memory> {
+        let levels = match section.lane {
+            Lane::Task(task) => self.layout.depth(task).max(2),
+            _ => 2,
+        };
+        let height = SECTIONS.height / levels;
+        let below = height.saturating_mul(self.depth(section)?);
+        let top = SECTIONS.top.saturating_add(below);
+        Ok(Room { top, height })
+    }
+
+    // The place of a block, if its lane is drawn.
+    fn room(&mut self, block: &Block) -> Result<Option<Room>, Memory> {
+        let room = self.layout.room(block.lane);
+        let part = match block.look {
+            Look::Holds => self.section(block)?,
+            Look::Life(_) => LIFE,
+            Look::Late => LATE,
+            _ => return Ok(room),
+        };
+        Ok(room.map(|room| Room {
+            top: room.top.saturating_add(part.top),
+            height: part.height,
+        }))
+    }
+
+    // Opens the element of a block.
+    fn class(&mut self, block: &Block) -> Added {
+        let (class, res) = class_of(block);
+        write!(self.text, "<g class=\"{class}")?;
+        if let Some(res) = res {
+            write!(self.text, " r{}", res.0 % COLOURS)?;
+        }
+        let after = if block.is_legal { "" } else { " after" };
+        write!(self.text, "{after}\">")?;
+        Ok(())
+    }
+
+    // The label of a block, where it has room.
+    fn label(&mut self, x: u64, width: u64, room: Room, label: &str) -> Added {
+        let length = (label.len() as u64).saturating_mul(CHARACTER);
+        if !label.is_empty() && length <= width && LABEL_HEIGHT <= room.height {
+            let (x, y) = (x.saturating_add(3), baseline(room));
+            write!(self.text, "<text x=\"{x}\" y=\"{y}\">{label}</text>")?;
+        }
+        Ok(())
+    }
+
+    fn block(&mut self, block: &Block, room: Room) -> Added {
+        let x = self.layout.left_of(block.first);
+        let width = self.layout.left_of(block.end).saturating_sub(x);
+        let (title, label) = (
+            block_title(self.scene, block)?,
+            label_of(self.scene, block)?,
+        );
+        self.class(block)?;
+        write!(self.text, "<title>{title}</title>")?;
+        self.rect(x, width, room)?;
+        self.label(x, width, room, &label)?;
+        self.text.push_str("</g>\n")?;
+        Ok(())
+    }
+
+    fn blocks(&mut self, shapes: &Shapes) -> Added {
+        for block in &shapes.blocks {
+            if let Some(room) = self.room(block)? {
+                self.block(block, room)?;
+            }
+        }
+        Ok(())
+    }
+
+    fn event(&mut self, event: &Event) -> Added {
+        let (symbol, x) = (symbol(event.moment), self.layout.left_of(event.tick));
+        if let Some(room) = self.layout.room(Lane::Task(event.job.task)) {
+            let (y, title) = (room.top, event_title(self.scene, event)?);
+            write!(self.text, "<use href=\"#{symbol}\" x=\"{x}\" y=\"{y}\">")?;
+            writeln!(self.text, "<title>{title}</title></use>")?;
+        }
+        Ok(())
+    }
+
+    fn events(&mut self, shapes: &Shapes) -> Added {
+        for event in &shapes.events {
+            self.event(event)?;
+        }
+        Ok(())
+    }
+
+    // A frame round the row that violates a rule, and the rule's name above it.
+    fn violation(&mut self, violation: &Violation) -> Added {
+        let (window, tick) = (self.scene.window, violation.row.tick);
+        let room = self.layout.room(lane_of(violation));
+        if let Some(room) = room
+            && window.from <= tick
+            && tick < window.to
+        {
+            let (x, y) = (self.layout.left_of(tick as u64), room.top.saturating_sub(3));
+            let title = violation_title(self.scene, violation)?;
+            let rule = format!(in self.scene.alloc; "{:?}", violation.rule)?;
+            write!(self.text, "<g class=\"breaks\"><title>{title}</title>")?;
+            self.rect(x, self.layout.tick_width, room)?;
+            self.text.push_str("</g>\n")?;
+            self.note("rule", x, y, &rule)?;
+        }
+        Ok(())
+    }
+
+    // A lane's background and name; in a wide picture the name is on the right too.
+    fn lane(&mut self, lane: Lane, class: &str, left: &str, name: &str) -> Added {
+        if let Some(room) = self.layout.room(lane) {
+            let (right, y) = (self.layout.right(), baseline(room));
+            self.note(left, LEFT - 8, y, &name)?;
+            if right > WIDE {
+                self.note(class, right.saturating_add(8), y, &name)?;
+            }
+            self.text.push_str("<g class=\"lane\">")?;
+            self.rect(LEFT, right.saturating_sub(LEFT), room)?;
+            self.text.push_str("</g>\n")?;
+        }
+        Ok(())
+    }
+
+    // The numbers of ticks: of each fifth, or where ticks are narrow of each tenth.
+    fn ticks(&mut self, y: u64) -> Added {
+        let each = if self.layout.tick_width < 8 { 10 } else { 5 };
+        let window = self.scene.window;
+        for tick in window.from..window.to {
+            if tick % each == 0 {
+                let x = self.layout.left_of(tick as u64);
+                self.note("tick", x, y, &tick)?;
+            }
+        }
+        Ok(())
+    }
+
+    fn core(&mut self, core: CoreId) -> Added {
+        let name = format!(in self.scene.alloc; "core {}", core.0)?;
+        if let Some(top) = self.layout.core_top(core) {
+            let y = top.saturating_add(9);
+            self.note("level name", LEFT - 16, y, &"time (ticks)")?;
+            self.ticks(y)?;
+        }
+        self.lane(Lane::Core(core), "label", "label name", &name)?;
+        self.lane(Lane::Ceiling(core), "level", "level name", "ceiling")
+    }
+
+    fn cores(&mut self) -> Added {
+        for core in 0..self.scene.plan.cores() {
+            self.core(CoreId(core))?;
+        }
+        Ok(())
+    }
+
+    fn tasks(&mut self) -> Added {
+        for task in 0..self.scene.plan.tasks() {
+            let (lane, name) = (
+                Lane::Task(TaskId(task)),
+                task_name(self.scene.plan, TaskId(task)),
+            );
+            self.lane(lane, "label", "label name", name)?;
+            if let Some(room) = self.layout.room(lane) {
+                let level = level_of(self.scene, TaskId(task));
+                let level = format!(in self.scene.alloc; "level {level}")?;
+                self.note("level name", LEFT - 8, room.top.saturating_add(28), &level)?;
+            }
+        }
+        Ok(())
+    }
+
+    fn queues(&mut self) -> Added {
+        for res in 0..self.scene.plan.resources() {
+            let name = res_name(self.scene.plan, ResId(res));
+            self.lane(Lane::Queue(ResId(res)), "label", "label name", name)?;
+        }
+        Ok(())
+    }
+
+    // The names of tasks that aren't drawn, as far as there is room.
+    fn left_out(&mut self, room: u64) -> Added {
+        let (mut names, mut more) = (String::new(self.scene.alloc), 0u64);
+        for task in 0..self.scene.plan.tasks() {
+            let name = task_name(self.scene.plan, TaskId(task));
+            let length = (names.len() as u64).saturating_add(name.len() as u64);
+            if self.layout.room(Lane::Task(TaskId(task))).is_some() {
+                continue;
+            } else if length.saturating_mul(CHARACTER) < room {
+                write!(names, " {name}")?;
+            } else {
+                more = more.saturating_add(1);
+            }
+        }
+        if more > 0 {
+            write!(names, " and {more} more")?;
+        }
+        if !names.is_empty() {
+            let words = format!(in self.scene.alloc; "without a job in these ticks:{names}")?;
+            self.note("level", 20, self.layout.bottom, &words)?;
+        }
+        Ok(())
+    }
+
+    // The verdict, what violates a rule, and which ticks are drawn.
+    fn caption(&mut self, shapes: &Shapes) -> Added {
+        let mut words = verdict(self.scene.alloc, self.scene.found)?;
+        if let Some(violation) = &shapes.violation {
+            let title = violation_title(self.scene, violation)?;
+            write!(words, " ({title})")?;
+        }
+        self.note("caption", 20, 24, &words)?;
+        self.note("caption", 20, 42, &drawn_ticks(self.scene)?)
+    }
+
+    // The size of the picture, its style and legend.
+    fn head(&mut self, width: u64) -> Added {
+        let height = self.layout.bottom.saturating_add(10);
+        write!(
+            self.text,
+            "<svg xmlns=\"http://www.w3.org/2000/svg\" width=\"{width}\" height=\"{height}\""
+        )?;
+        writeln!(self.text, " viewBox=\"0 0 {width} {height}\">")?;
+        self.text.push_str(STYLE)?;
+        self.text
+            .push_str("<rect width='100%' height='100%' style='stroke:none'/>\n")?;
+        self.text.push_str(LEGEND)?;
         Ok(())
     }
 }
 
-#[tactic(auto, unfolding(crate::specs::Elements::first_text))]
-fn add_first(text: &mut Vec<u8>, behind: u64, name: &[u8]) -> Added
-    ensures { OnOk result (text.new.items ≡ text.old.items ++ first_text behind name.now) }
-{
-    if behind == 0 {
-        add(text, name)
-    } else {
-        add_counted(text, b"+", behind, b" ")?;
-        add(text, name)
+/// A picture in SVG.
+pub(crate) fn svg(scene: &Scene<'_>, shapes: &Shapes) -> Result<String, Memory> {
+    let layout = Layout::of(scene, shapes)?;
+    let right = layout.right();
+    let margin = if right > WIDE { LEFT } else { 20 };
+    let width = right.saturating_add(margin).max(LEAST_WIDTH);
+    let mut canvas = Canvas {
+        scene,
+        layout,
+        text: String::new(scene.alloc),
+        last: None,
+        ends: Vec::new(scene.alloc),
+    };
+    canvas.head(width)?;
+    canvas.caption(shapes)?;
+    canvas.cores()?;
+    canvas.tasks()?;
+    canvas.queues()?;
+    canvas.blocks(shapes)?;
+    canvas.events(shapes)?;
+    if let Some(violation) = &shapes.violation {
+        canvas.violation(violation)?;
     }
-}
-
-/// Adds the words that stand in a block of so much width.
-pub(crate) fn add_word(text: &mut Vec<u8>, plan: &Plan, width: u64, span: &Span) -> Added
-    ensures { OnOk result (text.new.items ≡ text.old.items ++ word_text plan.now width span.now.job span.now.res span.now.look) }
-{
-    match span.look {
-        Look::Does(kind) => add_deed(text, width, kind, span.job),
-        Look::Turn => add(text, job_name(plan, span.job)),
-        Look::Holds => add(text, held_name(plan, span.res)),
-        Look::First(behind) => add_first(text, behind, job_name(plan, span.job)),
-        Look::Ceiling(level) => add_roomy(text, width, level as u64),
-        _ => Ok(()),
-    }
+    canvas.left_out(width.saturating_sub(400))?;
+    canvas.text.push_str("</svg>\n")?;
+    Ok(canvas.text)
 }

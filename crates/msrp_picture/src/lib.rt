@@ -1,31 +1,32 @@
 //! A trace of a plan as a picture, in text or in SVG.
 //!
-//! A plan, rows and the verdict on them in, and a text out ([`draw`]): `lines` and `picture` draw in text, and `svg` in SVG: there `lanes`, `blocks`,
-//! `ceilings`, `jobs` and `sections` say which `shapes` there are, and `elements` writes each. [`laws`] are theorems about that list.
+//! [`draw`] first lists what there is to see: which blocks and events, for which job, resource and ticks. This list,
+//! [`Shapes`], is proved to be what the rows say. Where and how a shape is drawn is tested, and not proved.
 #![tactic(auto)]
 
 mod blocks;
 mod ceilings;
-mod cells;
+mod drawing;
 mod elements;
 mod gathering;
-mod jobs;
-mod lanes;
 pub mod laws;
-mod lines;
-mod picture;
-mod places;
+mod layout;
+mod lives;
+mod plain;
+mod queues;
+mod scene;
 mod sections;
 mod shapes;
-mod svg;
 mod windows;
+mod words;
 
+pub use drawing::{draw, shapes_of};
 use msrp_plan::{Fault, Memory};
-pub use svg::draw;
+pub use shapes::{Block, Event, Lane, Look, Moment, Shapes, Violation};
 pub use windows::{Asked, SHORT_RUN, Style, Window, window_of};
 
-/// What is answered where something is added: nothing, or want of memory.
+/// What is answered where something is added: nothing, or that memory ran out.
 type Added = Result<(), Memory>;
 
-/// The verdict on rows: they keep the rules, or one breaks a rule.
+/// The verdict on rows.
 type Verdict = Result<(), Fault>;

@@ -1,67 +1,69 @@
-//! What a picture in SVG is made of, as data. Times are ticks; heights are units of the picture.
+//! What a picture shows, as data. Times are ticks.
 ghost use Rattle.std.specs.Prelude.{◌≡◌};
 ghost use Rattle.msrp_picture.specs.Blocks.{lasting};
 
-use msrp_plan::{CoreId, JobId, Kind, ResId, Rule, TaskId};
+use msrp_plan::{CoreId, JobId, Kind, ResId, Row, Rule, TaskId};
 
-/// The upper edge of a lane, or of a part of one, and its height.
+/// Where a block is drawn.
 #[derive(Clone, Copy, Debug, PartialEq, Eq)]
-pub struct Room {
-    pub top: u64,
-    pub height: u64,
+pub enum Lane {
+    /// Who runs on a core.
+    Core(CoreId),
+    /// The ceiling of a core.
+    Ceiling(CoreId),
+    /// What the jobs of a task do.
+    Task(TaskId),
+    /// The queue of a global resource.
+    Queue(ResId),
 }
 
 /// What a block shows.
 #[derive(Clone, Copy, Debug, PartialEq, Eq)]
 pub enum Look {
-    /// The background of a lane.
-    Lane,
+    /// A job runs on the lane's core.
+    Runs,
     /// What a job does.
     Does(Kind),
-    /// That a job has the turn of its core.
-    Turn,
-    /// That a job holds a resource.
+    /// A job holds a resource.
     Holds,
-    /// That a job is first in the queue of a resource, with so many behind it.
+    /// A job is first in the queue of a resource, and so many jobs wait behind it.
     First(u64),
-    /// The life of a job: from its release to its end, by which it is finished or not.
+    /// A job, from its release to its completion; or to the last tick with a row, where it isn't finished.
     Life(bool),
-    /// Its part behind the job's absolute deadline.
+    /// A job after its absolute deadline.
     Late,
-    /// The ceiling of a core.
+    /// The ceiling of the lane's core is this level.
     Ceiling(u32),
-    /// That a row breaks a rule.
-    Breaks(Rule),
 }
 
-/// The ticks from one on and up to another, in which something lasts.
+/// Something that lasts from one tick on and up to another, which is left out.
 #[derive(Clone, Copy, Debug, PartialEq, Eq)]
-pub struct Span {
+pub struct Block {
+    pub lane: Lane,
     pub first: u64,
     pub end: u64,
-    pub room: Room,
     pub look: Look,
-    /// Whether it stands before the first row that breaks a rule.
+    /// Whether it is before the first row that violates a rule.
     pub is_legal: bool,
     pub job: Option<JobId>,
     pub res: Option<ResId>,
 }
 
-/// A block of legal rows, or of none.
+/// A block of legal rows.
 pub(crate) fn lasting(
+    lane: Lane,
     first: u64,
     end: u64,
-    room: Room,
     look: Look,
     job: Option<JobId>,
     res: Option<ResId>,
-) -> Span
-    ensures { result ≡ lasting first end room look job res }
+) -> Block
+    ensures { result ≡ lasting lane first end look job res }
 {
-    Span {
+    Block {
+        lane,
         first,
         end,
-        room,
         look,
         is_legal: true,
         job,
@@ -72,52 +74,31 @@ pub(crate) fn lasting(
 /// What happens to a job at the beginning of a tick.
 #[derive(Clone, Copy, Debug, PartialEq, Eq)]
 pub enum Moment {
-    /// Its release.
     Release,
     /// Its absolute deadline.
     Deadline,
+    Completion,
 }
 
-/// A moment of a job, above its task's lane.
+/// A moment of a job.
 #[derive(Clone, Copy, Debug, PartialEq, Eq)]
 pub struct Event {
-    pub tick: u64,
-    pub top: u64,
     pub moment: Moment,
+    pub tick: u64,
     pub job: JobId,
 }
 
-/// Words beside the lanes and above them.
+/// The first row that violates a rule.
 #[derive(Clone, Copy, Debug, PartialEq, Eq)]
-pub enum Words {
-    /// The name of a core's lane.
-    Core(CoreId),
-    /// The name of a task's lane.
-    Task(TaskId),
-    /// The core of a task, and its preemption level.
-    Level(CoreId, u32),
-    /// The name of a lane of ceilings.
-    Ceiling,
-    /// The name of a resource's lane.
-    Res(ResId),
-    /// The number of a tick.
-    Tick(u64),
-    /// The rule that a row breaks.
-    Broken(Rule),
+pub struct Violation {
+    pub row: Row,
+    pub rule: Rule,
 }
 
-/// Words, with where they stand on which line.
-#[derive(Clone, Copy, Debug, PartialEq, Eq)]
-pub struct Note {
-    pub left: u64,
-    pub line: u64,
-    pub words: Words,
-}
-
-/// A shape of a picture.
-#[derive(Clone, Copy, Debug, PartialEq, Eq)]
-pub enum Shape {
-    Block(Span),
-    Arrow(Event),
-    Text(Note),
+/// What there is to see in a picture.
+#[derive(Drop)]
+pub struct Shapes {
+    pub blocks: Vec<Block>,
+    pub events: Vec<Event>,
+    pub violation: Option<Violation>,
 }

@@ -7,4 +7,3 @@ pub mod Waiters
 pub mod NextRow
 pub mod Orders
 pub mod Stretches
-pub mod Deciding

@@ -1,10 +1,9 @@
-//! The command line: the words of a command, and what they ask for.
-
+//! The command line: the arguments of a command, and what they ask for.
 ghost use Rattle.std.specs.Prelude.{◌≡◌, ◌⊎◌};
 ghost use Rattle.msrp_plan.specs.Common.{false, map, ok_or, option_map, string_bytes, Err, IfErr, IfOk, Some, is_ascii_digit, list_all};
 ghost use Rattle.clap.specs.Words.{fault_of, found_of, matches_of, rows_of, rule_of};
+ghost use Rattle.msrp_view.specs.CommandLine.{IsAnswered, IsShown, Takes, IsAsked};
 ghost use Rattle.msrp_view.specs.CommandLine as line;
-ghost use Rattle.msrp_view.specs.CommandLine.{IsAnswered, IsDrawn, IsExplained, IsExported, IsShown, IsTold, Takes};
 
 use clap::error::ErrorKind;
 use clap::{Arg, ArgAction, ArgMatches, Command};
@@ -16,33 +15,37 @@ use msrp_export::Format;
 use msrp_picture::{Asked, Style};
 use std::alloc::{AllocError, Global};
 
-/// A command, with its words. A path `-` is standard input.
+/// What is shown of a trace.
+#[derive(Clone, Copy, Debug, PartialEq, Eq)]
+pub enum View {
+    /// A picture of these ticks.
+    Picture(Asked),
+    /// The verdict and its reasons, in words.
+    Why,
+    /// The whole trace, in a format of another tool.
+    Export(Format),
+}
+
+/// A command, with its arguments. A path `-` is standard input.
 #[derive(Clone, Copy, Debug, PartialEq, Eq)]
 pub enum Cmd<'a> {
-    /// Draws these ticks of a trace of the plan.
-    View {
-        asked: Asked,
+    /// Shows a trace of the plan.
+    Show {
+        view: View,
         plan: &'a str,
         trace: &'a str,
     },
-    /// Says why the plan is refused, or what is odd in it; of a trace of it what was due in the first row that breaks a rule.
-    Why {
+    /// Says in words why the plan is refused, or what is odd in it.
+    WhyPlan {
         plan: &'a str,
-        trace: Option<&'a str>,
-    },
-    /// Writes a trace of the plan in a format of another tool.
-    Export {
-        format: Format,
-        plan: &'a str,
-        trace: &'a str,
     },
     /// Prints the help.
     Help,
-    /// Prints the version, and what the release tells of itself.
+    /// Prints the version, and the release's kit and commit.
     Version,
 }
 
-// The words of arguments, by which they are declared and found again.
+// The names of arguments, by which they are declared and found again.
 const TEXT: &str = "text";
 
 const SVG: &str = "svg";
@@ -60,36 +63,37 @@ const PERFETTO: &str = "perfetto";
 const VERSION: &str = "version";
 
 // What the help says of each.
-const TEXT_HELP: &str = "draws in plain text, as without it";
+const ABOUT: &str =
+    "MSRP 0.1.0, shows a trace of a plan: a picture, the reasons of its verdict, or a file for another tool";
 
-const SVG_HELP: &str = "draws in SVG, for a browser or a document";
+const TEXT_HELP: &str = "plain-text picture (default)";
+
+const SVG_HELP: &str = "SVG picture, for a browser or a document";
 
 const FROM_HELP: &str =
-    "the first tick that is drawn; 0 where none is given, but round a fault where neither is";
+    "first tick of the picture (default: 0; near the fault if neither tick is given)";
 
 const TO_HELP: &str =
-    "the tick up to which is drawn, itself left out; where none is given the end, after at most 200 ticks";
+    "end tick of the picture, exclusive (default: end of the trace, at most 200 ticks after the first)";
 
 const WHY_HELP: &str =
-    "draws nothing, and says in words why the plan is refused or what is odd in it; with a trace, what was due in place of its first faulty row";
+    "explain in words: why the plan is refused or what is odd in it; with a trace, its first faulty row";
 
-const VCD_HELP: &str =
-    "draws nothing, and writes the whole trace as a value change dump, for GTKWave and other viewers of waves";
+const VCD_HELP: &str = "value change dump of the whole trace, for GTKWave and other wave viewers";
 
-const PERFETTO_HELP: &str =
-    "draws nothing, and writes the whole trace as JSON of trace events, for ui.perfetto.dev and other viewers of them";
+const PERFETTO_HELP: &str = "trace events (JSON) of the whole trace, for ui.perfetto.dev";
 
-const PLAN_HELP: &str = "the plan's path; - is standard input";
+const PLAN_HELP: &str = "path of the plan; - is standard input";
 
-const TRACE_HELP: &str = "the trace's path; - is standard input; only --why goes without it";
+const TRACE_HELP: &str = "path of the trace; - is standard input; only --why works without it";
+
+const VERSION_HELP: &str = "print the version, and the kit and the commit of the release";
 
 // The program, still without arguments.
 fn program<'a>(alloc: Global) -> Command<'a>
     ensures { Takes line.program result }
 {
-    Command::new(alloc, "msrp_view").about(
-        "MSRP 0.1.0, draws a trace of a plan: what each core does in each tick, and who stands in the queue of each global resource",
-    )
+    Command::new(alloc, "msrp_view").about(ABOUT)
 }
 
 // The flag that asks for the version.
@@ -100,14 +104,13 @@ fn version<'a>(alloc: Global) -> Arg<'a>
     Arg::new(alloc, VERSION)
         .long(VERSION)
         .action(ArgAction::Version)
-        .help("prints the version, and the kit and the commit of the release")
+        .help(VERSION_HELP)
 }
 
 // A path that need not be given.
 fn optional<'a>(alloc: Global, name: &'a str, help: &'a str) -> Arg<'a>
     ensures rule { rule_of result ≡ line.optional name.now }
     ensures own { result.global ≡ false }
-    ensures text { result.help ≡ Some help.entry }
 {
     Arg::new(alloc, name).help(help)
 }
@@ -143,9 +146,10 @@ fn are_digits(text: &[u8]) -> bool
     text.iter().all(|byte| byte.is_ascii_digit())
 }
 
-// The tick of a word, if there is one: digits alone.
+// The tick of an argument, if it is given: digits alone.
 fn tick_of(word: Option<&str>) -> Result<Option<u32>, CliFault>
-    ensures { result ≡ ok_or (line.tick_of (option_map (λ word. word.now) word.entry)) CliFault.Usage }
+    ensures value { result ≡ line.tick_of (option_map (λ word. word.now) word.entry) }
+    ensures usage { IfErr result (λ fault. fault ≡ CliFault.Usage) }
 {
     let Some(word) = word else {
         return Ok(None);
@@ -159,9 +163,10 @@ fn tick_of(word: Option<&str>) -> Result<Option<u32>, CliFault>
     }
 }
 
-// How it is drawn, where these flags are given: in text, if none is.
+// The style of a picture: text, unless SVG is asked for.
 fn style_of(text: bool, svg: bool) -> Result<Style, CliFault>
-    ensures { result ≡ ok_or (line.style_of text svg) CliFault.Usage }
+    ensures value { result ≡ line.style_of text svg }
+    ensures usage { IfErr result (λ fault. fault ≡ CliFault.Usage) }
 {
     match (text, svg) {
         (_, false) => Ok(Style::Text),
@@ -170,9 +175,10 @@ fn style_of(text: bool, svg: bool) -> Result<Style, CliFault>
     }
 }
 
-// How it is drawn, and the ticks.
+// The picture that is asked for.
 fn asked_of(matches: &ArgMatches<'_>) -> Result<Asked, CliFault>
-    ensures { result ≡ ok_or (line.asked_of (rows_of (found_of matches.now))) CliFault.Usage }
+    ensures value { result ≡ line.asked_of (rows_of (found_of matches.now)) }
+    ensures usage { IfErr result (λ fault. fault ≡ CliFault.Usage) }
 {
     Ok(Asked {
         style: style_of(is_given(matches, TEXT), is_given(matches, SVG))?,
@@ -181,16 +187,19 @@ fn asked_of(matches: &ArgMatches<'_>) -> Result<Asked, CliFault>
     })
 }
 
-// What is drawn.
-fn view_of<'a>(matches: &ArgMatches<'a>) -> Result<Cmd<'a>, CliFault>
-    ensures { IsDrawn (line.view_of (rows_of (found_of matches.now))) result }
+// The format for another tool: one, not both.
+fn format_of(vcd: bool, perfetto: bool) -> Result<Format, CliFault>
+    ensures value { result ≡ line.format_of vcd perfetto }
+    ensures usage { IfErr result (λ fault. fault ≡ CliFault.Usage) }
 {
-    let (plan, trace) = both_paths(matches)?;
-    let asked = asked_of(matches)?;
-    Ok(Cmd::View { asked, plan, trace })
+    match (vcd, perfetto) {
+        (true, false) => Ok(Format::Vcd),
+        (false, true) => Ok(Format::Perfetto),
+        _ => Err(CliFault::Usage),
+    }
 }
 
-// Whether the words say how to draw, or which ticks.
+// Whether the arguments say how to draw, or which ticks.
 fn says_picture(matches: &ArgMatches<'_>) -> bool
     ensures { result ≡ line.says_picture (rows_of (found_of matches.now)) }
 {
@@ -200,100 +209,69 @@ fn says_picture(matches: &ArgMatches<'_>) -> bool
         || is_given(matches, TO)
 }
 
-// Whether the words name a format of another tool.
+// Whether the arguments name a format of another tool.
 fn says_format(matches: &ArgMatches<'_>) -> bool
     ensures { result ≡ line.says_format (rows_of (found_of matches.now)) }
 {
     is_given(matches, VCD) || is_given(matches, PERFETTO)
 }
 
-// What is explained: a plan, or a trace of it.
-fn why_of<'a>(matches: &ArgMatches<'a>) -> Result<Cmd<'a>, CliFault>
-    ensures { IsExplained (line.why_of (rows_of (found_of matches.now))) result }
+// What is shown: a picture, words, or a file for another tool.
+fn view_of(matches: &ArgMatches<'_>) -> Result<View, CliFault>
+    ensures value { result ≡ line.view_of (rows_of (found_of matches.now)) }
+    ensures usage { IfErr result (λ fault. fault ≡ CliFault.Usage) }
 {
-    if says_picture(matches) || says_format(matches) {
-        return Err(CliFault::Usage);
-    }
-    if value_of(matches, TRACE).is_some() {
-        let (plan, trace) = both_paths(matches)?;
-        return Ok(Cmd::Why {
-            plan,
-            trace: Some(trace),
-        });
-    }
-    match value_of(matches, PLAN) {
-        Some(plan) => Ok(Cmd::Why { plan, trace: None }),
-        None => Err(CliFault::Usage),
-    }
-}
-
-// The format, where these flags are given: not both.
-fn format_of(vcd: bool, perfetto: bool) -> Result<Format, CliFault>
-    ensures { result ≡ ok_or (line.format_of vcd perfetto) CliFault.Usage }
-{
-    match (vcd, perfetto) {
-        (true, false) => Ok(Format::Vcd),
-        (false, true) => Ok(Format::Perfetto),
+    let why = is_given(matches, WHY);
+    let format = says_format(matches);
+    let picture = says_picture(matches);
+    match (why, format, picture) {
+        (true, false, false) => Ok(View::Why),
+        (false, true, false) => {
+            let format = format_of(is_given(matches, VCD), is_given(matches, PERFETTO))?;
+            Ok(View::Export(format))
+        }
+        (false, false, _) => Ok(View::Picture(asked_of(matches)?)),
         _ => Err(CliFault::Usage),
     }
 }
 
-// What is written for another tool, and in which format.
-fn export_told<'a>(matches: &ArgMatches<'a>) -> Result<Cmd<'a>, CliFault>
-    ensures { IsExported (line.export_told (rows_of (found_of matches.now))) result }
+// Whether a plan alone is to be explained.
+fn explains_plan(view: View, trace: Option<&str>) -> bool
+    ensures { result ≡ line.explains_plan view (option_map (λ path. path.now) trace.entry) }
 {
+    matches!((view, trace), (View::Why, None))
+}
+
+// The command that shows that.
+fn shown_of<'a>(view: View, matches: &ArgMatches<'a>) -> Result<Cmd<'a>, CliFault>
+    ensures shown { IsShown view (rows_of (found_of matches.now)) result }
+    ensures usage { IfErr result (λ fault. fault ≡ CliFault.Usage) }
+{
+    if explains_plan(view, value_of(matches, TRACE)) {
+        return match value_of(matches, PLAN) {
+            Some(plan) => Ok(Cmd::WhyPlan { plan }),
+            None => Err(CliFault::Usage),
+        };
+    }
     let (plan, trace) = both_paths(matches)?;
-    let format = format_of(is_given(matches, VCD), is_given(matches, PERFETTO))?;
-    Ok(Cmd::Export {
-        format,
-        plan,
-        trace,
-    })
+    Ok(Cmd::Show { view, plan, trace })
 }
 
-// An export, where nothing is said of a picture.
-fn export_of<'a>(matches: &ArgMatches<'a>) -> Result<Cmd<'a>, CliFault>
-    ensures { IsExported (line.export_of (rows_of (found_of matches.now))) result }
-{
-    if says_picture(matches) {
-        return Err(CliFault::Usage);
-    }
-    export_told(matches)
-}
-
-// What is shown: a picture, or what another tool shows.
-fn shown_of<'a>(matches: &ArgMatches<'a>) -> Result<Cmd<'a>, CliFault>
-    ensures { IsShown (rows_of (found_of matches.now)) result }
-{
-    if says_format(matches) {
-        export_of(matches)
-    } else {
-        view_of(matches)
-    }
-}
-
-// What is asked for: words, or what is shown.
+// The command that the arguments ask for.
 fn asked_for<'a>(matches: &ArgMatches<'a>) -> Result<Cmd<'a>, CliFault>
-    ensures { IsTold (rows_of (found_of matches.now)) result }
+    ensures asked { IsAsked (rows_of (found_of matches.now)) result }
+    ensures usage { IfErr result (λ fault. fault ≡ CliFault.Usage) }
 {
-    if is_given(matches, WHY) {
-        why_of(matches)
-    } else {
-        shown_of(matches)
-    }
+    let view = view_of(matches)?;
+    shown_of(view, matches)
 }
 
-fn asks_version(kind: ErrorKind) -> bool
-    ensures { result ≡ line.asks_version kind }
-{
-    matches!(kind, ErrorKind::DisplayVersion)
-}
-
-// What a fault of the words is answered: the version or the help where they are asked for, which is no fault.
+// What is answered to arguments that are refused: the version or the help, where they ask for it,
+// which is no fault.
 fn answer_to<'a>(kind: ErrorKind) -> Result<Cmd<'a>, CliFault>
     ensures { result ≡ line.answer_to kind }
 {
-    if asks_version(kind) {
+    if matches!(kind, ErrorKind::DisplayVersion) {
         return Ok(Cmd::Version);
     }
     match fault_of_words(kind) {
@@ -302,7 +280,7 @@ fn answer_to<'a>(kind: ErrorKind) -> Result<Cmd<'a>, CliFault>
     }
 }
 
-/// The command that the words ask for; the first word is the program's name.
+/// The command of these arguments; the first one is the program's name.
 pub fn command_of<'a>(alloc: Global, words: &'a [String]) -> Result<Cmd<'a>, CliFault>
     ensures fault { IfErr result (λ fault. (fault ≡ CliFault.Usage) ⊎ (fault ≡ CliFault.Memory)) }
     ensures answer { (result ≡ Err CliFault.Memory) ⊎ IsAnswered (fault_of line.grammar (map string_bytes words.now)) (matches_of line.grammar (map string_bytes words.now)) result }

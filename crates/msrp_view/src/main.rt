@@ -1,18 +1,19 @@
-//! `msrp_view`: draws a trace of a plan, in text or in SVG, writes it for another tool, or says in words what is wrong with either.
+//! `msrp_view`: shows a trace of a plan as a picture, in words, or in a format of another tool.
 //!
-//! `cli` reads the command line, and `main` opens what the words name, prints the line of a fault and gives the exit status. The engines
-//! are `msrp_view_engine`'s.
+//! `cli` reads the command line. `main` opens the files, prints the line of a fault and gives the
+//! exit status. The engines are those of `msrp_view_engine`.
 #![tactic(auto)]
 
 mod cli;
 mod version;
 
-use cli::{Cmd, command_of, help_text};
+use cli::{Cmd, View, command_of, help_text};
 use msrp_cli::{open, open_both, words_of};
 use msrp_engine::{CliFault, exit_of, write_answer};
 use msrp_plan::bytes::{Sink, Source};
 use msrp_view_engine::{export_text, view_text, why_plan_text, why_text};
-use std::io::{BufWriter, Write};
+use std::alloc::Global;
+use std::io::{BufWriter, Read, Write};
 use std::process::ExitCode;
 use std::{env, fs, io};
 use version::write_version;
@@ -20,18 +21,36 @@ use version::write_version;
 // Output is gathered into writes of this many bytes.
 const GATHERED: usize = 65_536;
 
-// The file in which a release tells of itself: its kit, its commit, and more.
+// The file in which a release names its kit and its commit.
 const RELEASE: &str = "share/doc/msrp/BUILD-INFO";
 
-// What stands in place of it where the program doesn't lie in a release.
+// Its text for a program outside of a release.
 const NO_RELEASE: &[u8] = b"kit: unknown\ncommit: unknown\n";
 
-// What the release in which the program lies tells of itself.
+// What a plan from standard input is called.
+const STANDARD_INPUT: &str = "<stdin>";
+
+// The text of that file, if the program is in a release.
 fn release_info(rt: &HostRuntime) -> Option<Vec<u8>> {
     let program = env::current_exe(rt).ok()?;
     let top = program.parent()?.parent()?;
     let path = top.join(rt.alloc(), RELEASE).ok()?;
     fs::read(rt, path.as_path()).ok()
+}
+
+// Shows a trace of a plan.
+fn show<P: Read, T: Read, W: Write>(
+    alloc: Global,
+    view: View,
+    plan: &mut Source<P>,
+    trace: &mut Source<T>,
+    out: &mut Sink<W>,
+) -> Result<u8, CliFault> {
+    match view {
+        View::Picture(asked) => view_text(alloc, plan, trace, out, asked),
+        View::Why => why_text(alloc, plan, trace, out),
+        View::Export(format) => export_text(alloc, plan, trace, out, format),
+    }
 }
 
 // Does what the command asks for, and answers the exit status.
@@ -40,41 +59,21 @@ fn answer<W: Write>(rt: &HostRuntime, cmd: Cmd<'_>, out: &mut Sink<W>) -> Result
     match cmd {
         Cmd::Help => write_answer(out, help_text(alloc)?.as_bytes(), Ok(0)),
         Cmd::Version => match release_info(rt) {
-            Some(told) => write_version(out, told.as_slice()),
+            Some(release) => write_version(out, release.as_slice()),
             None => write_version(out, NO_RELEASE),
         },
-        Cmd::Why { plan, trace: None } => {
-            why_plan_text(alloc, &mut Source::new(open(rt, plan)?), out)
+        Cmd::WhyPlan { plan } => {
+            let name = if plan == "-" { STANDARD_INPUT } else { plan };
+            why_plan_text(alloc, name, &mut Source::new(open(rt, plan)?), out)
         }
-        Cmd::Why {
-            plan,
-            trace: Some(trace),
-        } => {
+        Cmd::Show { view, plan, trace } => {
             let (plan, trace) = open_both(rt, plan, trace)?;
-            why_text(alloc, &mut Source::new(plan), &mut Source::new(trace), out)
-        }
-        Cmd::Export {
-            format,
-            plan,
-            trace,
-        } => {
-            let (plan, trace) = open_both(rt, plan, trace)?;
-            export_text(
+            show(
                 alloc,
+                view,
                 &mut Source::new(plan),
                 &mut Source::new(trace),
                 out,
-                format,
-            )
-        }
-        Cmd::View { asked, plan, trace } => {
-            let (plan, trace) = open_both(rt, plan, trace)?;
-            view_text(
-                alloc,
-                &mut Source::new(plan),
-                &mut Source::new(trace),
-                out,
-                asked,
             )
         }
     }

@@ -1,5 +1,4 @@
 pub mod Statuses
-pub mod Answered
 pub mod Views
 pub mod Explaining
 pub mod Whys

@@ -1,16 +1,13 @@
 //! A trace in the format of another tool.
-ghost use Rattle.std.specs.Prelude.{◌≡◌, ◌⊎◌, ◌+◌, ◌<◌, ◌^◌};
-ghost use Rattle.msrp_plan.specs.Common.{ℕ, List, [], length, true, Some, Err, IfOk, IfErr, Wrote, source_remaining};
+ghost use Rattle.std.specs.Prelude.{◌≡◌, ◌⊎◌};
+ghost use Rattle.msrp_plan.specs.Common.{[], true, Some, Err, IfErr, WroteSome};
 ghost use Rattle.msrp_audit.specs.Audits.{HasFed};
-ghost use Rattle.msrp_plan.specs.declared.rows.Row.{Row as TraceRow};
-ghost use Rattle.msrp_text.specs.Reading.{csv_records};
 ghost use Rattle.msrp_trace.specs.Reading.{Told, rows_of};
 ghost use Rattle.msrp_engine.specs.Answered.{Ends, IsVerdict, OfText, OfTexts, ReadsBoth};
 ghost use Rattle.msrp_engine.specs.Findings.{finding};
 ghost use Rattle.msrp_engine.specs.Judging.{rows_left};
-ghost use Rattle.msrp_export.specs.Exports.{HasExported, export_text};
 ghost use Rattle.msrp_faults.specs.Outcomes.{is_audit_fault, is_trace_fault};
-ghost use Rattle.msrp_view_engine.specs.Exporting.{ExportAnswers, ExportTold, end_or_fault};
+ghost use Rattle.msrp_view_engine.specs.Exporting.{ExportAnswers, ExportTold};
 
 use crate::statuses::answer_to;
 use msrp_audit::Auditor;
@@ -21,12 +18,16 @@ use msrp_plan::bytes::{Sink, Source};
 use msrp_plan::{Fault, Plan};
 use msrp_text::read_plan;
 use msrp_trace::TraceReader;
-use std::alloc::Global;
+use std::alloc::{AllocError, Global};
 use std::io::{Read, Write};
 
-// Writes what comes behind all rows, with the verdict on them.
-fn write_end<W: Write>(exporter: &mut Exporter<'_>, out: &mut Sink<W>, found: Result<(), Fault>)
-    ensures { (rows : List TraceRow) → HasExported exporter.old rows → length rows + 1 < 2 ^ 32 → Wrote W.contents out.old out.new (end_or_fault exporter.old.format exporter.old.plan.now rows found) }
+// Writes what follows all rows, with the verdict on them.
+fn write_end<W: Write>(
+    exporter: &mut Exporter<'_>,
+    out: &mut Sink<W>,
+    found: Result<(), Fault>,
+) -> Result<(), AllocError>
+    ensures { WroteSome W.contents out.old out.new }
 {
     match found {
         Ok(()) => exporter.end(out),
@@ -36,6 +37,7 @@ fn write_end<W: Write>(exporter: &mut Exporter<'_>, out: &mut Sink<W>, found: Re
 
 // Writes the rows that are left, and answers the verdict. None is read after a faulty one.
 fn export_rows<T: Read, W: Write>(
+    alloc: Global,
     plan: &Plan,
     rows: &mut JudgedRows<'_, '_, T>,
     out: &mut Sink<W>,
@@ -45,21 +47,21 @@ fn export_rows<T: Read, W: Write>(
     requires fed { HasFed rows.old.auditor [] }
     ensures found { (told : Told) → rows_left T.remaining rows.old ≡ Some told
         → (result ≡ Err CliFault.Read) ⊎ (result ≡ Err CliFault.Memory) ⊎ (result ≡ finding plan.now told) }
-    ensures wrote { (told : Told) → rows_left T.remaining rows.old ≡ Some told → IfOk result (λ found. Wrote W.contents out.old out.new (export_text format plan.now told.rows found)) }
+    ensures wrote { WroteSome W.contents out.old out.new }
     ensures faults { IfErr result (λ fault. is_trace_fault fault ≡ true) }
 {
-    let mut exporter = Exporter::new(plan, format);
-    exporter.head(out);
+    let mut exporter = Exporter::new(alloc, plan, format);
+    exporter.head(out)?;
     loop {
         match rows.next_row()? {
-            Judgement::Legal(row) => exporter.row(out, row),
+            Judgement::Legal(row) => exporter.row(out, row)?,
             Judgement::Broken(row, fault) => {
-                exporter.fault(out, fault.rule, Some(row));
+                exporter.fault(out, fault.rule, Some(row))?;
                 return Ok(Err(fault));
             }
             Judgement::End => {
                 let found = rows.auditor().end();
-                write_end(&mut exporter, out, found);
+                write_end(&mut exporter, out, found)?;
                 return Ok(found);
             }
         }
@@ -75,15 +77,14 @@ fn export_all<T: Read, W: Write>(
     format: Format,
 ) -> Result<Result<(), Fault>, CliFault>
     ensures found { OfText T.remaining trace.old result (λ records. result ≡ finding plan.now (rows_of plan.now records)) }
-    ensures wrote { (bytes : List ℕ) → source_remaining T.remaining trace.old ≡ Some bytes
-        → IfOk result (λ found. Wrote W.contents out.old out.new (export_text format plan.now (rows_of plan.now (csv_records bytes)).rows found)) }
+    ensures wrote { WroteSome W.contents out.old out.new }
     ensures faults { IfErr result (λ fault. is_trace_fault fault ≡ true) }
 {
     let levels = Levels::of(alloc, plan)?;
     let auditor = Auditor::with_room(alloc, plan, &levels)?;
     let reader = TraceReader::new(alloc, trace, plan)?;
     let mut rows = JudgedRows::new(plan, auditor, reader);
-    let found = export_rows(plan, &mut rows, out, format);
+    let found = export_rows(alloc, plan, &mut rows, out, format);
     drop(rows);
     found
 }
@@ -96,7 +97,8 @@ fn export_plan<T: Read, W: Write>(
     out: &mut Sink<W>,
     format: Format,
 ) -> Result<u8, CliFault>
-    ensures answer { OfText T.remaining trace.old result (λ records. ExportTold W.contents format plan.now (rows_of plan.now records) out.old out.new result) }
+    ensures answer { OfText T.remaining trace.old result (λ records. ExportTold plan.now (rows_of plan.now records) out.new result) }
+    ensures wrote { WroteSome W.contents out.old out.new }
     ensures ends { Ends IsVerdict (λ fault. (is_trace_fault fault ≡ true) ⊎ (fault ≡ CliFault.Write)) out.new result }
 {
     let found = export_all(alloc, plan, trace, out, format)?;
@@ -118,9 +120,10 @@ pub fn export_text<P: Read, T: Read, W: Write>(
 ) -> Result<u8, CliFault>
     // Where the readers tell their bytes, and no read failed and no memory was refused, the answer is that to
     // the plan and the rows that they stand for.
-    ensures answer { OfTexts P.remaining T.remaining plan.old trace.old result (λ plan records. ExportAnswers W.contents format plan records out.old out.new result) }
+    ensures answer { OfTexts P.remaining T.remaining plan.old trace.old result (λ plan records. ExportAnswers plan records out.old out.new result) }
 
     // Whatever the readers tell.
+    ensures wrote { WroteSome W.contents out.old out.new }
     ensures reads { ReadsBoth P.remaining plan.old plan.new trace.old trace.new result }
     ensures ends { Ends IsVerdict (λ fault. is_audit_fault fault ≡ true) out.new result }
 {

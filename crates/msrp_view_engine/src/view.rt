@@ -1,7 +1,6 @@
 //! The picture of a trace's text.
-
 ghost use Rattle.std.specs.Prelude.{◌≡◌, ◌⊎◌};
-ghost use Rattle.msrp_plan.specs.Common.{true, Ok, Err, IfOk, IfErr, verdict};
+ghost use Rattle.msrp_plan.specs.Common.{true, Ok, Err, IfOk, IfErr, verdict, WroteSome};
 ghost use Rattle.msrp_audit.specs.Audits.{answer_of};
 ghost use Rattle.msrp_faults.specs.Outcomes.{is_trace_fault, is_view_fault};
 ghost use Rattle.msrp_picture.specs.Windows.{IsWindow};
@@ -9,7 +8,6 @@ ghost use Rattle.msrp_trace.specs.Reading.{rows_of};
 ghost use Rattle.msrp_engine.specs.Answered.{Answered, OfText, OfTexts, ReadsBoth};
 ghost use Rattle.msrp_engine.specs.MadeTexts.{found_in};
 ghost use Rattle.msrp_view_engine.specs.Views.{IsPictureOf, IsPictureTold, ViewAnswers};
-ghost use Rattle.msrp_picture.specs.Styles.{drawing};
 
 use crate::reading::read_rows;
 use crate::statuses::answer_to;
@@ -32,7 +30,6 @@ fn pictured(
 ) -> Result<Made, CliFault>
     requires { IsWindow window }
     ensures found { (result ≡ Err CliFault.Memory) ⊎ (found_in result ≡ Ok (answer_of (verdict plan.now trace.now.rows.items))) }
-    ensures text { IfOk result (λ made. made.text.items ≡ drawing asked plan.now trace.now.rows.items made.found window) }
     ensures memory { IfErr result (λ fault. fault ≡ CliFault.Memory) }
 {
     let found = audit(alloc, plan, trace)?;
@@ -49,7 +46,7 @@ fn picture_of<T: Read>(
     window: Window,
 ) -> Result<Made, CliFault>
     requires { IsWindow window }
-    ensures found { OfText T.remaining trace.old result (λ records. IsPictureTold asked plan.now (rows_of plan.now records).rows (rows_of plan.now records).refusal window result) }
+    ensures found { OfText T.remaining trace.old result (λ records. IsPictureTold plan.now (rows_of plan.now records).rows (rows_of plan.now records).refusal result) }
     ensures faults { IfErr result (λ fault. is_trace_fault fault ≡ true) }
 {
     let trace = read_rows(alloc, plan, trace)?;
@@ -91,9 +88,10 @@ pub fn view_text<P: Read, T: Read, W: Write>(
 ) -> Result<u8, CliFault>
     // Where the readers tell their bytes, and no read failed and no memory was refused, the answer is that to
     // the plan and the rows that they stand for.
-    ensures answer { OfTexts P.remaining T.remaining plan.old trace.old result (λ plan records. ViewAnswers W.contents plan records asked out.old out.new result) }
+    ensures answer { OfTexts P.remaining T.remaining plan.old trace.old result (λ plan records. ViewAnswers plan records asked out.old out.new result) }
 
     // Whatever the readers tell.
+    ensures wrote { WroteSome W.contents out.old out.new }
     ensures always { Answered P.remaining (λ fault. is_view_fault fault ≡ true) plan.old plan.new trace.old trace.new out.old out.new result }
 {
     let made = picture_of_texts(alloc, plan, trace, asked)?;

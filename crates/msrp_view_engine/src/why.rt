@@ -1,20 +1,16 @@
 //! Why a trace is no legal run: the verdict, the row that breaks a rule, and what was due.
 ghost use Rattle.std.specs.Prelude.{◌≡◌, ◌⊎◌, ◌+◌};
-ghost use Rattle.msrp_plan.specs.Common.{ℕ, List, [], true, Ok, Some, Err, IfOk, IfErr, IfSome, Wrote};
-ghost use Rattle.csv.specs.Records.{fields_of};
+ghost use Rattle.msrp_plan.specs.Common.{ℕ, List, [], true, Ok, Some, Err, IfOk, IfErr, IfSome, WroteSome};
 ghost use Rattle.msrp_audit.specs.Audits.{HasFed};
 ghost use Rattle.msrp_text.specs.Lines.{BeginsIn};
-ghost use Rattle.msrp_text.specs.Reading.{csv_records};
 ghost use Rattle.msrp_trace.specs.Reading.{Told, rows_of};
-ghost use Rattle.msrp_trace.specs.Readers.{HasReadBehind, HasReadIn, StandsBehind, StandsIn, told_left};
-ghost use Rattle.msrp_engine.specs.Answered.{Ends, IsVerdict, ReadsBoth};
+ghost use Rattle.msrp_trace.specs.Readers.{HasReadBehind, HasReadIn, told_left};
+ghost use Rattle.msrp_engine.specs.Answered.{Ends, IsVerdict, ReadsBoth, OfText, OfTexts};
 ghost use Rattle.msrp_engine.specs.MadeTexts.{found_in};
 ghost use Rattle.msrp_faults.specs.Outcomes.{is_audit_fault, is_plan_fault, trace_fault_of};
 ghost use Rattle.msrp_why.specs.Noted.{AreNoted};
 ghost use Rattle.msrp_view_engine.specs.Statuses.{is_record_fault};
-ghost use Rattle.msrp_view_engine.specs.Answered.{OfBothBytes, OfBytes};
-ghost use Rattle.msrp_view_engine.specs.Inside.Readings.{error_words};
-ghost use Rattle.msrp_view_engine.specs.Whys.{BeginsRefused, BeginsRow, IsExplained, IsExplainedOf, IsJudged, IsWhyOf, WhyAnswers, behind_text, found_text};
+ghost use Rattle.msrp_view_engine.specs.Whys.{BeginsRefused, BeginsRow, IsExplained, IsExplainedOf, IsJudged, IsWhyOf, WhyAnswers};
 
 use crate::statuses::answer_to;
 use csv::ByteRecord;
@@ -22,13 +18,13 @@ use msrp_audit::Auditor;
 use msrp_engine::{CliFault, Made, gathered_text, settled, write_answer};
 use msrp_levels::Levels;
 use msrp_plan::bytes::{Sink, Source};
-use msrp_plan::{Fault, Plan};
+use msrp_plan::{Fault, Plan, TextVersion};
 use msrp_text::read_plan;
 use msrp_trace::{TraceError, TraceReader};
 use msrp_why::{
     Ground, Notes, cause_of, write_cause, write_exercise, write_missing, write_refused,
 };
-use std::alloc::Global;
+use std::alloc::{AllocError, Global};
 use std::io::{Read, Write};
 
 // A verdict, with what it stands on.
@@ -76,7 +72,6 @@ fn judge_rows<T: Read>(
     requires fed { HasFed auditor.old [] }
     requires noted { AreNoted plan.now [] notes }
     ensures found { (told : Told) → told_left T.remaining rows.old ≡ Some told → IsJudged plan.now told result }
-    ensures stands { (records : List (List (List ℕ))) → StandsIn T.remaining records rows.old → IfErr result (λ error. StandsBehind T.remaining records (Err error) rows.new) }
     ensures line { (bytes : List ℕ) → HasReadIn T.remaining bytes rows.old → IfOk result (λ judged. BeginsRow bytes judged.ground) }
     ensures read { (bytes : List ℕ) → HasReadIn T.remaining bytes rows.old → IfErr result (λ error. HasReadBehind T.remaining bytes (Err error) rows.new) }
 {
@@ -105,21 +100,21 @@ fn judge_rows<T: Read>(
     })
 }
 
-// Tells what makes the verdict so, behind its record.
-fn write_behind<W: Write>(
+// Writes what makes the verdict so, after its record. Rows are shown as in a trace of this version.
+fn write_ground<W: Write>(
     out: &mut Sink<W>,
     plan: &Plan,
     levels: &Levels<'_>,
-    verdict: Result<(), Fault>,
-    ground: &Ground,
-)
+    version: TextVersion,
+    judged: &Judged,
+    line: &mut String,
+) -> Result<(), AllocError>
     requires levels { levels.now ≡ plan.now }
-    ensures { Wrote W.contents out.old out.new (behind_text plan.now verdict ground.now) }
 {
-    match (ground, verdict) {
-        (Ground::Row(cause), _) => write_cause(out, plan, levels, cause),
-        (Ground::End(notes), Ok(())) => write_exercise(out, plan, notes),
-        (Ground::End(notes), Err(_)) => write_missing(out, plan, notes),
+    match (&judged.ground, judged.verdict) {
+        (Ground::Row(cause), _) => write_cause(out, plan, levels, version, cause, line),
+        (Ground::End(notes), Ok(())) => write_exercise(out, plan, notes, line),
+        (Ground::End(notes), Err(_)) => write_missing(out, plan, version, notes, line),
     }
 }
 
@@ -128,16 +123,17 @@ fn words_on(
     alloc: Global,
     plan: &Plan,
     levels: &Levels<'_>,
+    version: TextVersion,
     judged: Judged,
 ) -> Result<Explained, CliFault>
     requires levels { levels.now ≡ plan.now }
     ensures found { IfOk result (λ words. words.found ≡ Ok judged.verdict) }
-    ensures text { IfOk result (λ words. words.text.items ≡ found_text plan.now judged.verdict judged.ground) }
     ensures memory { IfErr result (λ fault. fault ≡ CliFault.Memory) }
 {
     let mut text = Sink::new(Vec::new(alloc));
+    let mut line = String::new(alloc);
     text.verdict(judged.verdict);
-    write_behind(&mut text, plan, levels, judged.verdict, &judged.ground);
+    write_ground(&mut text, plan, levels, version, &judged, &mut line)?;
     Ok(Explained {
         text: gathered_text(text)?,
         found: Ok(judged.verdict),
@@ -153,7 +149,6 @@ fn words_on_refusal(
     row: &ByteRecord,
 ) -> Result<Explained, CliFault>
     ensures found { IfOk result (λ words. words.found ≡ Err (trace_fault_of error)) }
-    ensures text { IfOk result (λ words. words.text.items ≡ error_words plan.now error line (fields_of row.now)) }
     ensures refused { IfOk result (λ words. IfErr words.found (λ fault. is_record_fault fault ≡ true)) }
     ensures fault { IfErr result (λ fault. (fault ≡ CliFault.Memory) ⊎ (fault ≡ CliFault.Read)) }
 {
@@ -161,7 +156,8 @@ fn words_on_refusal(
         return Err(CliFault::from(error));
     };
     let mut text = Sink::new(Vec::new(alloc));
-    write_refused(&mut text, plan, fault, number, line, row);
+    let mut buffer = String::new(alloc);
+    write_refused(&mut text, plan, fault, number, line, row, &mut buffer)?;
     Ok(Explained {
         text: gathered_text(text)?,
         found: Err(CliFault::from(error)),
@@ -176,15 +172,14 @@ fn explain_rows<T: Read>(
     rows: &mut TraceReader<'_, T>,
 ) -> Result<Explained, CliFault>
     requires levels { levels.now ≡ plan.now }
-    ensures explained { (bytes : List ℕ) (told : Told) → told_left T.remaining rows.old ≡ Some told → StandsIn T.remaining (csv_records bytes) rows.old → HasReadIn T.remaining bytes rows.old
-        → (result ≡ Err CliFault.Read) ⊎ (result ≡ Err CliFault.Memory) ⊎ IfOk result (IsExplained plan.now bytes told) }
+    ensures explained { (told : Told) → told_left T.remaining rows.old ≡ Some told → (result ≡ Err CliFault.Read) ⊎ (result ≡ Err CliFault.Memory) ⊎ IfOk result (IsExplained plan.now told) }
     ensures refused { IfOk result (λ words. IfErr words.found (λ fault. is_record_fault fault ≡ true)) }
     ensures faults { IfErr result (λ fault. (fault ≡ CliFault.Memory) ⊎ (fault ≡ CliFault.Read)) }
 {
     let mut auditor = Auditor::with_room(alloc, plan, levels)?;
-    let notes = Notes::with_room(alloc, plan, levels, &auditor)?;
+    let notes = Notes::with_room(alloc, plan, &auditor)?;
     match judge_rows(plan, levels, &mut auditor, notes, rows) {
-        Ok(judged) => words_on(alloc, plan, levels, judged),
+        Ok(judged) => words_on(alloc, plan, levels, rows.version(), judged),
         Err(error) => {
             let line = line_of_refused(rows, error);
             words_on_refusal(alloc, plan, error, line, rows.record())
@@ -198,7 +193,7 @@ fn explain_all<T: Read>(
     plan: &Plan,
     trace: &mut Source<T>,
 ) -> Result<Explained, CliFault>
-    ensures explained { OfBytes T.remaining trace.old result (λ bytes. IfOk result (IsExplained plan.now bytes (rows_of plan.now (csv_records bytes)))) }
+    ensures explained { OfText T.remaining trace.old result (λ records. IfOk result (IsExplained plan.now (rows_of plan.now records))) }
     ensures refused { IfOk result (λ words. IfErr words.found (λ fault. is_record_fault fault ≡ true)) }
     ensures faults { IfErr result (λ fault. (fault ≡ CliFault.Memory) ⊎ (fault ≡ CliFault.Read)) }
 {
@@ -220,7 +215,7 @@ fn explain<P: Read, T: Read>(
     plan: &mut Source<P>,
     trace: &mut Source<T>,
 ) -> Result<Explained, CliFault>
-    ensures explained { OfBothBytes P.remaining T.remaining plan.old trace.old result (λ plan bytes. IsExplainedOf plan bytes result) }
+    ensures explained { OfTexts P.remaining T.remaining plan.old trace.old result (λ plan records. IsExplainedOf plan records result) }
     ensures refused { IfOk result (λ words. IfErr words.found (λ fault. is_record_fault fault ≡ true)) }
     ensures reads { ReadsBoth P.remaining plan.old plan.new trace.old trace.new result }
     ensures faults { IfErr result (λ fault. is_plan_fault fault ≡ true) }
@@ -232,8 +227,7 @@ fn explain<P: Read, T: Read>(
 
 // The words on a verdict; of a refusal there are none.
 fn made_of(words: Explained) -> Result<Made, CliFault>
-    ensures found { found_in result ≡ words.found }
-    ensures text { IfOk result (λ made. made.text ≡ words.text) }
+    ensures { found_in result ≡ words.found }
 {
     match words.found {
         Ok(found) => Ok(Made {
@@ -250,7 +244,7 @@ pub fn why_of_texts<P: Read, T: Read>(
     plan: &mut Source<P>,
     trace: &mut Source<T>,
 ) -> Result<Made, CliFault>
-    ensures why { OfBothBytes P.remaining T.remaining plan.old trace.old result (λ plan bytes. IsWhyOf plan bytes result) }
+    ensures why { OfTexts P.remaining T.remaining plan.old trace.old result (λ plan records. IsWhyOf plan records result) }
     ensures reads { ReadsBoth P.remaining plan.old plan.new trace.old trace.new result }
     ensures faults { IfErr result (λ fault. is_audit_fault fault ≡ true) }
     ensures unwritten { ¬ (result ≡ Err CliFault.Write) }
@@ -274,10 +268,11 @@ pub fn why_text<P: Read, T: Read, W: Write>(
     out: &mut Sink<W>,
 ) -> Result<u8, CliFault>
     // Where the readers tell their bytes, and no read failed and no memory was refused, the answer is that to
-    // the plan and the rows that they stand for, and a line that is told is the one in which the record begins.
-    ensures answer { OfBothBytes P.remaining T.remaining plan.old trace.old result (λ plan bytes. WhyAnswers W.contents plan bytes out.old out.new result) }
+    // the plan and the rows that they stand for.
+    ensures answer { OfTexts P.remaining T.remaining plan.old trace.old result (λ plan records. WhyAnswers plan records out.old out.new result) }
 
     // Whatever the readers tell.
+    ensures wrote { WroteSome W.contents out.old out.new }
     ensures reads { ReadsBoth P.remaining plan.old plan.new trace.old trace.new result }
     ensures ends { Ends IsVerdict (λ fault. is_audit_fault fault ≡ true) out.new result }
     ensures silent { IfErr result (λ fault. (fault ≡ CliFault.Write) ⊎ (is_record_fault fault ≡ true) ⊎ (out.new ≡ out.old)) }

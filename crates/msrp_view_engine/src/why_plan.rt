@@ -1,19 +1,17 @@
 //! Why a plan is refused, or what is odd in it, in words.
 ghost use Rattle.std.specs.Prelude.{◌≡◌, ◌⊎◌, ◌-◌, if◌then◌else◌};
-ghost use Rattle.msrp_plan.specs.Common.{ℕ, List, [], true, false, Ok, Some, Err, map, take, IfOk, IfErr, OnOk, Wrote, source_failed, source_remaining, code_of};
+ghost use Rattle.msrp_plan.specs.Common.{ℕ, List, [], true, false, Ok, Some, Err, map, take, IfOk, IfErr, OnOk, source_failed, source_remaining, WroteSome};
 ghost use Rattle.csv.specs.Records.{fields_of};
-ghost use Rattle.msrp_advice.specs.Refusals.{refusal_text};
-ghost use Rattle.msrp_advice.specs.Warnings.{accepted_text};
 ghost use Rattle.msrp_text.specs.Reading.{csv_records, plan_of, record_at};
 ghost use Rattle.msrp_text.specs.Records.{GivesNext, records_left};
 ghost use Rattle.msrp_text.specs.declared.reading.TextError.{TextError};
 ghost use Rattle.msrp_engine.specs.Answered.{Ends, IsDone, OrUnread};
-ghost use Rattle.msrp_view_engine.specs.Explaining.{AreWordsOn, WhyPlanAnswers, words_status};
+ghost use Rattle.msrp_view_engine.specs.Explaining.{WhyPlanAnswers, words_status, IsRefusedAs};
 ghost use Rattle.msrp_faults.specs.Outcomes.{is_sim_fault};
 
 use csv::ByteRecord;
-use msrp_advice::{write_accepted, write_refusal};
-use msrp_engine::{CliFault, ending_of, gathered_text, write_answer};
+use msrp_advice::{AcceptedPlan, RefusedPlan, warnings_of};
+use msrp_engine::{CliFault, ending_of, write_answer};
 use msrp_levels::Levels;
 use msrp_plan::bytes::{Sink, Source};
 use msrp_plan::{Plan, PlanFault};
@@ -100,43 +98,54 @@ fn reach(alloc: Global, bytes: &[u8], number: u32) -> Result<Reached, CliFault>
 }
 
 // The words on a refused record of a text, in memory.
-fn words_on_refusal(alloc: Global, bytes: &[u8], refusal: Refusal) -> Result<Words, CliFault>
-    ensures words { IfOk result (λ words. AreWordsOn bytes.now (Err (TextError.At refusal.fault refusal.number)) words) }
+fn words_on_refusal(
+    alloc: Global,
+    name: &str,
+    bytes: &[u8],
+    refusal: Refusal,
+) -> Result<Words, CliFault>
+    ensures refused { IfOk result (λ words. words.refusal ≡ Some refusal) }
     ensures memory { IfErr result (λ fault. fault ≡ CliFault.Memory) }
 {
     let reached = reach(alloc, bytes, refusal.number)?;
-    let mut text = Sink::new(Vec::new(alloc));
-    write_refusal(
-        &mut text,
-        bytes,
-        refusal.fault,
-        refusal.number,
-        reached.before.as_slice(),
-        &reached.row,
-    );
+    let words = RefusedPlan {
+        name,
+        text: bytes,
+        fault: refusal.fault,
+        number: refusal.number,
+        before: reached.before.as_slice(),
+        row: &reached.row,
+    };
     Ok(Words {
-        text: gathered_text(text)?,
+        text: format!(in alloc; "{words}")?.into_bytes(),
         refusal: Some(refusal),
     })
 }
 
 // The words on an accepted plan, in memory.
 fn words_on_plan(alloc: Global, plan: &Plan) -> Result<Words, CliFault>
-    ensures words { (bytes : List ℕ) → IfOk result (λ words. AreWordsOn bytes (Ok plan.now) words) }
+    ensures refused { IfOk result (λ words. words.refusal ≡ None) }
     ensures memory { IfErr result (λ fault. fault ≡ CliFault.Memory) }
 {
     let levels = Levels::of(alloc, plan)?;
-    let mut text = Sink::new(Vec::new(alloc));
-    write_accepted(&mut text, plan, &levels);
+    let warnings = warnings_of(alloc, plan, &levels)?;
+    let words = AcceptedPlan {
+        plan,
+        warnings: warnings.as_slice(),
+    };
     Ok(Words {
-        text: gathered_text(text)?,
+        text: format!(in alloc; "{words}")?.into_bytes(),
         refusal: None,
     })
 }
 
 /// The words on a plan, and its refusal if it is refused, as [`why_plan_text`] writes them.
-pub fn why_of_plan<P: Read>(alloc: Global, plan: &mut Source<P>) -> Result<Words, CliFault>
-    ensures words { (bytes : List ℕ) → source_remaining P.remaining plan.old ≡ Some bytes → IfOk result (λ words. AreWordsOn bytes (plan_of (csv_records bytes)) words) }
+pub fn why_of_plan<P: Read>(
+    alloc: Global,
+    name: &str,
+    plan: &mut Source<P>,
+) -> Result<Words, CliFault>
+    ensures refused { (bytes : List ℕ) → source_remaining P.remaining plan.old ≡ Some bytes → IfOk result (λ words. IsRefusedAs (plan_of (csv_records bytes)) words.refusal) }
     ensures faults { IfErr result (λ fault. (fault ≡ CliFault.Read) ⊎ (fault ≡ CliFault.Memory)) }
     ensures read { result ≡ Err CliFault.Read → source_failed plan.new ≡ true }
     ensures memory { result ≡ Err CliFault.Memory → source_failed plan.new ≡ false }
@@ -145,7 +154,7 @@ pub fn why_of_plan<P: Read>(alloc: Global, plan: &mut Source<P>) -> Result<Words
     match read_plan(alloc, &mut Source::new(bytes.as_slice())) {
         Ok(plan) => words_on_plan(alloc, &plan),
         Err(TextError::At { fault, number }) => {
-            words_on_refusal(alloc, bytes.as_slice(), Refusal { fault, number })
+            words_on_refusal(alloc, name, bytes.as_slice(), Refusal { fault, number })
         }
         Err(_) => Err(CliFault::Memory),
     }
@@ -169,26 +178,27 @@ fn write_words<W: Write>(
     write_answer(out, text, answer)
 }
 
-/// Reads a plan, and writes what is wrong with it or odd in it. Of a refused plan: the code and the number of the refused record with
-/// a sentence on it, the record as it stands, and the earlier record that the refusal concerns, if there is one, both with their lines. The answer is the refusal, as every engine gives it, and so is the exit status. Of
-/// an accepted plan: `good`, and then a line for each thing that is odd.
+/// Reads a plan of that name, and writes what is wrong with it or odd in it, as [`RefusedPlan`] and [`AcceptedPlan`] say it. The
+/// answer to a refused plan is its refusal, as every engine gives it.
 ///
 /// All memory is taken before anything is written: so whatever the fault, but a refusal or a write fault, nothing was written.
 pub fn why_plan_text<P: Read, W: Write>(
     alloc: Global,
+    name: &str,
     plan: &mut Source<P>,
     out: &mut Sink<W>,
 ) -> Result<u8, CliFault>
     // Where the reader tells its bytes, and no read failed and no memory was refused, the answer is that to
     // them and to the plan that they stand for.
-    ensures answer { (bytes : List ℕ) → source_remaining P.remaining plan.old ≡ Some bytes → OrUnread result (WhyPlanAnswers W.contents bytes (plan_of (csv_records bytes)) out.old out.new result) }
+    ensures answer { (bytes : List ℕ) → source_remaining P.remaining plan.old ≡ Some bytes → OrUnread result (WhyPlanAnswers (plan_of (csv_records bytes)) out.new result) }
 
     // Whatever the reader tells.
+    ensures wrote { WroteSome W.contents out.old out.new }
     ensures read { result ≡ Err CliFault.Read → source_failed plan.new ≡ true }
     ensures memory { result ≡ Err CliFault.Memory → source_failed plan.new ≡ false }
     ensures ends { Ends IsDone (λ fault. is_sim_fault fault ≡ true) out.new result }
     ensures silent { (result ≡ Err CliFault.Memory) ⊎ (result ≡ Err CliFault.Read) → out.new ≡ out.old }
 {
-    let words = why_of_plan(alloc, plan)?;
+    let words = why_of_plan(alloc, name, plan)?;
     write_words(out, words.text.as_slice(), words.refusal)
 }

@@ -1,5 +1,5 @@
 -- What a run exercised, one row more.
-use Rattle.msrp_plan.proofs.Common.{ℕ, suc, max, Bool, true, false, cond, not, nat_lt, List, [], Option, Some, None, refl, ap, sym, subst, arith, length, length-append, append-nil, append_assoc, inl, inr, Contains, ForSome, mul-le-mul_left, and_parts, not-true, slice_get_within, All-contains, All-from_recursion, count_after, is_before, done, is_job, is_released, is_started, jobs_of, jobs_on, PlanModel, units, is_on, IsLegal, IsRunStart, IsPlan, core_jobs_below, is_job_is, same_self, IsTurn, legal_turn, turn_chosen, turn_core, least_passes}
+use Rattle.msrp_plan.proofs.Common.{ℕ, suc, max, Bool, true, false, cond, not, nat_lt, List, [], Option, Some, None, refl, ap, sym, subst, arith, length, length-append, append-nil, append_assoc, inl, inr, ForSome, mul-le-mul_left, and_parts, not-true, count_after, is_before, done, is_job, is_released, is_started, jobs_of, jobs_on, PlanModel, is_on, IsLegal, IsRunStart, IsPlan, is_job_is, same_self, IsTurn, legal_turn, turn_chosen, turn_core, least_passes, is_queue}
 use Rattle.msrp_plan.specs.declared.ids.JobId.{JobId}
 use Rattle.msrp_plan.specs.declared.rows.Row.{Row}
 use Rattle.std.proofs.Common.{◌≡◌, ◌+◌, ◌*◌, ◌<◌, ◌≤◌, ◌&&◌, ◌∷◌, ◌++◌, ◌∙◌, lt-ltb}
@@ -11,14 +11,15 @@ use Rattle.msrp_plan.proofs.Blocking.SectionRows.{count_after_push}
 use Rattle.msrp_plan.proofs.Choosing.Live.{nothing_done}
 use Rattle.msrp_plan.proofs.Choosing.Turns.{has_turn}
 use Rattle.msrp_audit.proofs.Judging.{own_is}
-use Rattle.msrp_why.specs.Exercise.{AreResourceCounts, AreTurnCounts, ends, enters, finishes, finishes_at_deadline, finishes_late, has_open, is_at, is_entry, is_grant, is_granted_at_once, is_granted_later, is_in_tick, is_kept, is_met, is_opening, is_other, is_past, is_queue, job_finishes, job_nests, joins, keeps_head, meets_ceiling, most_after, nests, one_if, preempts, queued_with}
-use Rattle.msrp_why.specs.FactLines.{is_job_of, units_done}
+use Rattle.msrp_why.specs.Exercise.{AreResourceCounts, AreTurnCounts, ends, finishes, is_at, is_entry, is_in_tick, is_kept, is_met, is_other, is_past, most_after, nests, one_if, queued_with}
 use Rattle.msrp_why.specs.Inside.Steps.{IsCountStep}
-use Rattle.msrp_why.specs.Inside.Turns.{finishes_from, nests_from}
+use Rattle.msrp_why.specs.Inside.Turns.{finishes_from, is_job_of, units_done}
 use Rattle.msrp_why.specs.NumberedRows.{last_change, queue_rows}
 use Rattle.msrp_why.specs.declared.exercise.ResourceCounts.{ResourceCounts}
 use Rattle.msrp_why.specs.declared.exercise.TurnCounts.{TurnCounts}
 use Rattle.msrp_why.specs.declared.notes.ResourceNotes.{ResourceNotes}
+use Rattle.msrp_plan.specs.Laws.{is_grant}
+use Rattle.msrp_why.proofs.Deciding.{below}
 
 -- the rows before another are few
 few : (n cores ticks : ℕ) → n ≤ cores * ticks → cores ≤ 8 → ticks ≤ 20000 → n ≤ 160000
@@ -73,25 +74,25 @@ most_without g rows r n off was =
     ∙ (ap (λ b. max (most_after (queued_with g) 0 [] rows) (cond b (length (queue_rows g (rows ++ r ∷ []))) 0)) (sym off)
     ∙ sym (most_push (queued_with g) 0 [] rows r)))
 
--- ---- what the rows on a resource found
+-- ---- what the rows on a resource met
 -- a row that isn't on it
 pub counts_off : (g : ℕ) (rows : List Row) (r : Row) (n : ResourceCounts) → is_on g r.res ≡ false → AreResourceCounts rows g n → AreResourceCounts (rows ++ r ∷ []) g n
 counts_off g rows r n off was = record {
-  free = none_more_counted (enters g) rows r n.free (ap (λ b. b && is_entry r.kind) off) was.free;
-  joined = none_more_counted (joins g) rows r n.joined (ap (λ b. b && is_queue r.kind) off) was.joined;
-  at_once = none_more_counted (is_granted_at_once g) rows r n.at_once (ap (λ b. b && (is_grant r.kind && is_in_tick r.tick (last_change g rows))) off) was.at_once;
-  later = none_more_counted (is_granted_later g) rows r n.later (ap (λ b. b && (is_grant r.kind && not (is_in_tick r.tick (last_change g rows)))) off) was.later;
+  free = none_more_counted _ rows r n.free (ap (λ b. b && is_entry r.kind) off) was.free;
+  joined = none_more_counted _ rows r n.joined (ap (λ b. b && is_queue r.kind) off) was.joined;
+  at_once = none_more_counted _ rows r n.at_once (ap (λ b. b && (is_grant r.kind && is_in_tick r.tick (last_change g rows))) off) was.at_once;
+  later = none_more_counted _ rows r n.later (ap (λ b. b && (is_grant r.kind && not (is_in_tick r.tick (last_change g rows)))) off) was.later;
   longest = most_without g rows r n.longest off was.longest;
 }
 
 -- a row on it
 pub counts_on : (g : ℕ) (rows : List Row) (r : Row) (old new : ResourceNotes) → length rows < 160000 → is_on g r.res ≡ true → IsCountStep r old new → old.last ≡ last_change g rows → new.queue.items ≡ queue_rows g (rows ++ r ∷ []) → AreResourceCounts rows g old.counts → AreResourceCounts (rows ++ r ∷ []) g new.counts
 counts_on g rows r old new few on step last queue was = record {
-  free = one_more_counted (enters g) rows r (is_entry r.kind) old.counts.free new.counts.free few (ap (λ b. b && is_entry r.kind) on) step.free was.free;
-  joined = one_more_counted (joins g) rows r (is_queue r.kind) old.counts.joined new.counts.joined few (ap (λ b. b && is_queue r.kind) on) step.joined was.joined;
-  at_once = one_more_counted (is_granted_at_once g) rows r (is_grant r.kind && is_in_tick r.tick old.last) old.counts.at_once new.counts.at_once few
+  free = one_more_counted _ rows r _ old.counts.free new.counts.free few (ap (λ b. b && is_entry r.kind) on) step.free was.free;
+  joined = one_more_counted _ rows r _ old.counts.joined new.counts.joined few (ap (λ b. b && is_queue r.kind) on) step.joined was.joined;
+  at_once = one_more_counted _ rows r _ old.counts.at_once new.counts.at_once few
       (ap (λ b. b && (is_grant r.kind && is_in_tick r.tick (last_change g rows))) on ∙ ap (λ l. is_grant r.kind && is_in_tick r.tick l) (sym last)) step.at_once was.at_once;
-  later = one_more_counted (is_granted_later g) rows r (is_grant r.kind && not (is_in_tick r.tick old.last)) old.counts.later new.counts.later few
+  later = one_more_counted _ rows r _ old.counts.later new.counts.later few
       (ap (λ b. b && (is_grant r.kind && not (is_in_tick r.tick (last_change g rows)))) on ∙ ap (λ l. is_grant r.kind && not (is_in_tick r.tick l)) (sym last)) step.later was.later;
   longest = most_with g rows r old.counts.longest new.counts.longest on (step.longest ∙ ap (λ q. max old.counts.longest (length q)) queue) was.longest;
 }
@@ -101,16 +102,13 @@ module _ (plan : PlanModel) (rows : List Row) (r : Row) (s : CoreState) (ok : Is
   turn : IsTurn plan rows r
   turn = legal_turn plan rows r legal
 
-  below : (j : JobId) → Contains (jobs_on plan r.core.0) j → j.task.0 < length plan.tasks
-  below j on = All-contains (λ i. i.task.0 < length plan.tasks) (jobs_on plan r.core.0) j (All-from_recursion (λ i. i.task.0 < length plan.tasks) (jobs_on plan r.core.0) (core_jobs_below plan r.core.0)) on
-
   -- the row's job is one of the plan
   pub job_below : ForSome r.job (λ j. j.task.0 < length plan.tasks)
-  job_below = λ j job. below j (turn.known j job)
+  job_below = λ j job. below plan r.core.0 j (turn.known j job)
 
   pub job_known : ForSome r.job (λ j. is_job_of plan j ≡ true)
   job_known = λ j job.
-      let low = below j (turn.known j job) in
+      let low = below plan r.core.0 j (turn.known j job) in
       let k : nat_lt j.k (length (jobs_of plan j.task.0)) ≡ true = own_is plan r j ok job low (turn_core plan rows r j turn job) ∙ legal.own in
       ap (λ b. b && nat_lt j.k (length (jobs_of plan j.task.0))) (lt-ltb j.task.0 (length plan.tasks) low) ∙ k
 
@@ -128,39 +126,39 @@ module _ (plan : PlanModel) (rows : List Row) (r : Row) (s : CoreState) (ok : Is
     | inr runs ↦ ap (λ o. cond (is_job o j) s.done 0) (is.running ∙ runs) ∙ (ap (λ b. cond b s.done 0) (same_self j) ∙ runs_so j (is.running ∙ runs))
   ]
 
-  -- and it has a unit left
-  pub units_left : ForSome r.job (λ j. units_done s j < length (units plan j))
-  units_left = λ j job. subst (λ n. n < length (units plan j)) (sym (done_so j job)) (slice_get_within (units plan j) (done j rows) (turn.does j job).op (turn.does j job).unit)
-
-  finishes_by : (o : Option JobId) → r.job ≡ o → job_finishes plan rows r o ≡ finishes_from plan s r.kind o
+  finishes_by : (o : Option JobId) → r.job ≡ o → finishes plan rows r o ≡ finishes_from plan s r.kind o
   finishes_by None job = refl
   finishes_by (Some j) job = ap (λ n. ends plan r.kind n j) (sym (done_so j job))
 
-  nests_by : (o : Option JobId) → r.job ≡ o → job_nests plan rows r o ≡ nests_from plan s r.kind o
-  nests_by None job = refl
-  nests_by (Some j) job = ap (λ n. is_opening r.kind && has_open plan j n) (sym (done_so j job))
-
   -- what is asked of the row, by the state before it
-  pub record AreTests (finished past at kept met other nested : Bool) : Type 0 where
+  pub record AreTests (finished late at kept met other nested : Bool) : Type 0 where
     pub finished_is : finished ≡ finishes_from plan s r.kind r.job
-    pub past_is : past ≡ (finished && is_past plan r.tick r.job)
+    pub late_is : late ≡ (finished && is_past plan r.tick r.job)
     pub at_is : at ≡ (finished && is_at plan r.tick r.job)
     pub kept_is : kept ≡ is_kept plan s.ceiling s.head
     pub met_is : met ≡ is_met plan s.ceiling s.head
     pub other_is : other ≡ is_other s.running r.job
-    pub nested_is : nested ≡ nests_from plan s r.kind r.job
+    pub nested_is : nested ≡ nests plan rows r
 
-  pub turns_on : (few : length rows < 160000) (old new : TurnCounts) (finished past at kept met other nested : Bool) → AreTests finished past at kept met other nested
-      → new.finished ≡ one_if old.finished finished → new.late ≡ one_if old.late past → new.at_deadline ≡ one_if old.at_deadline at → new.kept ≡ one_if old.kept kept → new.at_ceiling ≡ one_if old.at_ceiling met
-      → new.preempted ≡ one_if old.preempted other → new.nested ≡ one_if old.nested nested → AreTurnCounts plan rows old → AreTurnCounts plan (rows ++ r ∷ []) new
-  turns_on few old new finished past at kept met other nested tests f l d k m o n was =
-      let ends_so : finishes plan rows r ≡ finished = finishes_by r.job refl ∙ sym tests.finished_is in
+  -- the counts, each with one more if so
+  pub record AreMore (old new : TurnCounts) (finished late at kept met other nested : Bool) : Type 0 where
+    pub finished_more : new.finished ≡ one_if old.finished finished
+    pub late_more : new.late ≡ one_if old.late late
+    pub at_more : new.at_deadline ≡ one_if old.at_deadline at
+    pub kept_more : new.kept ≡ one_if old.kept kept
+    pub met_more : new.at_ceiling ≡ one_if old.at_ceiling met
+    pub other_more : new.preempted ≡ one_if old.preempted other
+    pub nested_more : new.nested ≡ one_if old.nested nested
+
+  pub turns_on : (few : length rows < 160000) (old new : TurnCounts) (finished late at kept met other nested : Bool) → AreTests finished late at kept met other nested → AreMore old new finished late at kept met other nested → AreTurnCounts plan rows old → AreTurnCounts plan (rows ++ r ∷ []) new
+  turns_on few old new finished late at kept met other nested tests more was =
+      let ends_so : finishes plan rows r r.job ≡ finished = finishes_by r.job refl ∙ sym tests.finished_is in
       record {
-        finished = one_more_counted (finishes plan) rows r finished old.finished new.finished few ends_so f was.finished;
-        late = one_more_counted (finishes_late plan) rows r past old.late new.late few (ap (λ b. b && is_past plan r.tick r.job) ends_so ∙ sym tests.past_is) l was.late;
-        at_deadline = one_more_counted (finishes_at_deadline plan) rows r at old.at_deadline new.at_deadline few (ap (λ b. b && is_at plan r.tick r.job) ends_so ∙ sym tests.at_is) d was.at_deadline;
-        kept = one_more_counted (keeps_head plan) rows r kept old.kept new.kept few (ap (λ n. is_kept plan n (head plan r.core.0 r.tick rows)) (sym is.ceiling) ∙ (ap (is_kept plan s.ceiling) (sym is.head) ∙ sym tests.kept_is)) k was.kept;
-        at_ceiling = one_more_counted (meets_ceiling plan) rows r met old.at_ceiling new.at_ceiling few (ap (λ n. is_met plan n (head plan r.core.0 r.tick rows)) (sym is.ceiling) ∙ (ap (is_met plan s.ceiling) (sym is.head) ∙ sym tests.met_is)) m was.at_ceiling;
-        preempted = one_more_counted (preempts plan) rows r other old.preempted new.preempted few (ap (λ x. is_other x r.job) (sym is.running) ∙ sym tests.other_is) o was.preempted;
-        nested = one_more_counted (nests plan) rows r nested old.nested new.nested few (nests_by r.job refl ∙ sym tests.nested_is) n was.nested;
+        finished = one_more_counted _ rows r finished old.finished new.finished few ends_so more.finished_more was.finished;
+        late = one_more_counted _ rows r _ old.late new.late few (ap (λ b. b && is_past plan r.tick r.job) ends_so ∙ sym tests.late_is) more.late_more was.late;
+        at_deadline = one_more_counted _ rows r _ old.at_deadline new.at_deadline few (ap (λ b. b && is_at plan r.tick r.job) ends_so ∙ sym tests.at_is) more.at_more was.at_deadline;
+        kept = one_more_counted _ rows r kept old.kept new.kept few (ap (λ n. is_kept plan n (head plan r.core.0 r.tick rows)) (sym is.ceiling) ∙ (ap (is_kept plan s.ceiling) (sym is.head) ∙ sym tests.kept_is)) more.kept_more was.kept;
+        at_ceiling = one_more_counted _ rows r met old.at_ceiling new.at_ceiling few (ap (λ n. is_met plan n (head plan r.core.0 r.tick rows)) (sym is.ceiling) ∙ (ap (is_met plan s.ceiling) (sym is.head) ∙ sym tests.met_is)) more.met_more was.at_ceiling;
+        preempted = one_more_counted _ rows r other old.preempted new.preempted few (ap (λ x. is_other x r.job) (sym is.running) ∙ sym tests.other_is) more.other_more was.preempted;
+        nested = one_more_counted _ rows r nested old.nested new.nested few (sym tests.nested_is) more.nested_more was.nested;
       }

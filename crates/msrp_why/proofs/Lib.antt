@@ -3,4 +3,3 @@ pub mod Exercising
 pub mod Deciding
 pub mod Noting
 pub mod Locking
-pub mod Written

@@ -1,10 +1,10 @@
 -- What is noted of the resources stays what the rows say, one row more.
-use Rattle.std.proofs.Common.{◌≡◌, ◌≢◌, ◌+◌, ◌-◌, ◌^◌, ◌<◌, ◌≤◌, ◌==◌, ◌&&◌, ◌∷◌, ◌++◌, ◌∙◌}
-use Rattle.msrp_plan.proofs.Common.{ℕ, zero, suc, min, Bool, true, false, cond, List, [], Option, Some, None, refl, ap, sym, subst, arith, length, length-append, length-drop, drop, append-nil, is_some, map, slice_get, slice_set, Contains, cons_option, filter, true≢false, and_parts, eqb-false, same_Some, drop-append-le, drop-drop, length-map, filter-append, fold_push, sum_by_push, PlanModel, has_shape, is_global, resources, done, holds, is_queued, is_global_unit, res_of_unit, fifo, is_first, is_on, is_release, is_release_of, is_request, requester, EachAfter, IsLegal, IsRunStart, IsPlan, same_is, in_resources, DoesUnit, legal_turn, places_push, not_equal, each_at, each_before, units_lock, Grants, Locks, Releases, Runs, Spins, Takes, Unlocks, step_of}
+use Rattle.std.proofs.Common.{◌≡◌, ◌≢◌, ◌+◌, ◌-◌, ◌^◌, ◌<◌, ◌≤◌, ◌&&◌, ◌∷◌, ◌++◌, ◌∙◌, ◌||◌}
+use Rattle.msrp_plan.proofs.Common.{ℕ, suc, min, Bool, true, false, cond, List, [], Option, Some, None, refl, ap, sym, subst, arith, length, length-append, length-drop, drop, append-nil, is_some, map, slice_get, Contains, cons_option, filter, true≢false, and_parts, drop-append-le, drop-drop, length-map, filter-append, fold_push, sum_by_push, PlanModel, has_shape, is_global, resources, done, holds, is_queued, is_global_unit, res_of_unit, fifo, is_first, is_on, is_release, is_release_of, is_request, requester, EachAfter, IsLegal, IsRunStart, IsPlan, same_is, in_resources, DoesUnit, legal_turn, places_push, not_equal, each_at, each_before, units_lock, Grants, Locks, Releases, Runs, Spins, Takes, Unlocks, step_of, list_any, range_with_len}
 use Rattle.msrp_plan.specs.declared.ids.JobId.{JobId}
 use Rattle.msrp_plan.specs.declared.ids.ResId.{ResId}
 use Rattle.msrp_plan.specs.declared.rows.Kind.{Kind}
-use Rattle.msrp_plan.specs.declared.rows.Kind.TheVariants.{Grant, Idle, Lock, Queue, Release, Run, Spin, Take, Unlock}
+use Rattle.msrp_plan.specs.declared.rows.Kind.TheVariants.{Queue, Take}
 use Rattle.msrp_plan.specs.declared.rows.Row.{Row}
 use Rattle.std.specs.List.{fold}
 use Rattle.std.specs.Option.{option_map}
@@ -17,10 +17,9 @@ use Rattle.msrp_plan.proofs.Queues.Fifos.{IsFed, fifo_request, released, request
 use Rattle.msrp_plan.proofs.Queues.QueueMembers.{queue_at, queue_short}
 use Rattle.msrp_plan.proofs.TaskUnits.Stands.{holder_stands}
 use Rattle.msrp_plan.proofs.TaskUnits.UnitKinds.{Queues}
-use Rattle.msrp_sim.proofs.Standing.{get_set_other, get_set_same}
-use Rattle.msrp_why.specs.Exercise.{AreResourceCounts}
-use Rattle.msrp_why.specs.Inside.Steps.{IsCountStep}
-use Rattle.msrp_why.specs.Noted.{IsNoted, last_with, queue_with}
+use Rattle.msrp_why.specs.Exercise.{AreResourceCounts, is_inside, is_user}
+use Rattle.msrp_why.specs.Inside.Steps.{IsCountStep, last_with, queue_with}
+use Rattle.msrp_why.specs.Noted.{IsNoted}
 use Rattle.msrp_why.specs.NumberedRows.{changes, is_change, job_of, last_change, last_row, numbered, queue_rows, requests}
 use Rattle.msrp_why.specs.declared.notes.Numbered.{Numbered}
 use Rattle.msrp_why.specs.declared.notes.ResourceNotes.{ResourceNotes}
@@ -70,19 +69,8 @@ last_push g rows r false h =
 pub last_on : (g : ℕ) (rows : List Row) (r : Row) (k : Kind) → is_on g r.res ≡ true → r.kind ≡ k → last_change g (rows ++ r ∷ []) ≡ cond (is_change k) (Some (record { number = length rows + 1; row = r })) (last_change g rows)
 last_on g rows r k on is = last_push g rows r (is_change k) (ap (λ b. b && is_change r.kind) on ∙ ap is_change is)
 
-last_by : (o : Option Numbered) (e : Numbered) (k : Kind) → last_with k o e ≡ cond (is_change k) (Some e) o
-last_by o e Lock = refl
-last_by o e Unlock = refl
-last_by o e Release = refl
-last_by o e Idle = refl
-last_by o e Run = refl
-last_by o e Take = refl
-last_by o e Queue = refl
-last_by o e Spin = refl
-last_by o e Grant = refl
-
 pub last_noted : (g : ℕ) (rows : List Row) (r : Row) → is_on g r.res ≡ true → last_with r.kind (last_change g rows) (record { number = length rows + 1; row = r }) ≡ last_change g (rows ++ r ∷ [])
-last_noted g rows r on = last_by (last_change g rows) (record { number = length rows + 1; row = r }) r.kind ∙ sym (last_on g rows r r.kind on refl)
+last_noted g rows r on = sym (last_on g rows r r.kind on refl)
 
 -- a row that isn't on it
 pub last_off : (g : ℕ) (rows : List Row) (r : Row) → is_on g r.res ≡ false → last_change g rows ≡ last_change g (rows ++ r ∷ [])
@@ -225,83 +213,56 @@ module _ (plan : PlanModel) (rows : List Row) (r : Row) (g : ℕ) (ok : IsPlan p
   request_short request = let f = (request_fits request).1 in let most = ok.draft.cores.1 in omega (arith, f, most)
 
   -- the queue with the row
-  queue_by : (k : Kind) → r.kind ≡ k → queue_with k (queue_rows g rows) (record { number = length rows + 1; row = r }) ≡ queue_rows g (rows ++ r ∷ [])
-  queue_by Idle is = sym (queue_same g rows r (ap (λ b. b && is_release r.kind) on ∙ ap is_release is) (ap (λ b. b && is_request r.kind) on ∙ ap is_request is))
-  queue_by Run is = sym (queue_same g rows r (ap (λ b. b && is_release r.kind) on ∙ ap is_release is) (ap (λ b. b && is_request r.kind) on ∙ ap is_request is))
-  queue_by Lock is = sym (queue_same g rows r (ap (λ b. b && is_release r.kind) on ∙ ap is_release is) (ap (λ b. b && is_request r.kind) on ∙ ap is_request is))
-  queue_by Unlock is = sym (queue_same g rows r (ap (λ b. b && is_release r.kind) on ∙ ap is_release is) (ap (λ b. b && is_request r.kind) on ∙ ap is_request is))
-  queue_by Spin is = sym (queue_same g rows r (ap (λ b. b && is_release r.kind) on ∙ ap is_release is) (ap (λ b. b && is_request r.kind) on ∙ ap is_request is))
-  queue_by Grant is = sym (queue_same g rows r (ap (λ b. b && is_release r.kind) on ∙ ap is_release is) (ap (λ b. b && is_request r.kind) on ∙ ap is_request is))
-  queue_by Take is = sym (queue_more g rows r (request_fits (ap is_request is)).0 (ap (λ b. b && is_release r.kind) on ∙ ap is_release is) (ap (λ b. b && is_request r.kind) on ∙ ap is_request is))
-  queue_by Queue is = sym (queue_more g rows r (request_fits (ap is_request is)).0 (ap (λ b. b && is_release r.kind) on ∙ ap is_release is) (ap (λ b. b && is_request r.kind) on ∙ ap is_request is))
-  queue_by Release is = sym (queue_less g rows r (ap (λ b. b && is_release r.kind) on ∙ ap is_release is) (ap (λ b. b && is_request r.kind) on ∙ ap is_request is))
+  queue_by : (b c : Bool) → is_request r.kind ≡ b → is_release r.kind ≡ c → cond b (queue_rows g rows ++ record { number = length rows + 1; row = r } ∷ []) (cond c (drop 1 (queue_rows g rows)) (queue_rows g rows)) ≡ queue_rows g (rows ++ r ∷ [])
+  queue_by true c request release = sym (queue_more g rows r (request_fits request).0 (ap (λ x. x && is_release r.kind) on ∙ no_release r.kind request) (ap (λ x. x && is_request r.kind) on ∙ request))
+  queue_by false true request release = sym (queue_less g rows r (ap (λ x. x && is_release r.kind) on ∙ release) (ap (λ x. x && is_request r.kind) on ∙ request))
+  queue_by false false request release = sym (queue_same g rows r (ap (λ x. x && is_release r.kind) on ∙ release) (ap (λ x. x && is_request r.kind) on ∙ request))
 
   pub queue_noted : queue_with r.kind (queue_rows g rows) (record { number = length rows + 1; row = r }) ≡ queue_rows g (rows ++ r ∷ [])
-  queue_noted = queue_by r.kind refl
+  queue_noted = queue_by (is_request r.kind) (is_release r.kind) refl refl
 
 -- ---- all resources
--- nothing is noted before the first row
-pub record AreEmpty (n : ℕ) (notes : List ResourceNotes) : Type 0 where
-  pub size : length notes ≡ n
-  pub each : (g : ℕ) (x : ResourceNotes) → slice_get notes g ≡ Some x → IsNoted [] g x
+pub empty_more : (n : ℕ) (notes : List ResourceNotes) (x : ResourceNotes) → (length notes ≡ n) × ((g : ℕ) (y : ResourceNotes) → slice_get notes g ≡ Some y → IsNoted [] g y) → x.queue.items ≡ [] → x.last ≡ None → ((g : ℕ) → AreResourceCounts [] g x.counts)
+    → (length (notes ++ x ∷ []) ≡ n + 1) × ((g : ℕ) (y : ResourceNotes) → slice_get (notes ++ x ∷ []) g ≡ Some y → IsNoted [] g y)
+empty_more n notes x all queue last counts = (length-append notes (x ∷ []) ∙ ap (λ k. k + 1) all.0, places_push (IsNoted []) notes x all.1 (record { queue = queue; last = last; counts = counts (length notes) }))
 
-pub empty_more : (n : ℕ) (notes : List ResourceNotes) (x : ResourceNotes) → AreEmpty n notes → x.queue.items ≡ [] → x.last ≡ None → ((g : ℕ) → AreResourceCounts [] g x.counts) → AreEmpty (n + 1) (notes ++ x ∷ [])
-empty_more n notes x all queue last counts = record {
-  size = length-append notes (x ∷ []) ∙ ap (λ k. k + 1) all.size;
-  each = places_push (IsNoted []) notes x all.each (record { queue = queue; last = last; counts = counts (length notes) });
-}
+-- a row that isn't on the resource
+pub noted_off : (rows : List Row) (r : Row) (g : ℕ) (n : ResourceNotes) → is_on g r.res ≡ false → IsNoted rows g n → IsNoted (rows ++ r ∷ []) g n
+noted_off rows r g n off is = record { queue = is.queue ∙ queue_off g rows r off; last = is.last ∙ last_off g rows r off; counts = counts_off g rows r n.counts off is.counts }
 
--- a row that is on a resource
-on_it : (r : Row) (res : ResId) → r.res ≡ Some res → is_on res.0 r.res ≡ true
-on_it r res e = ap (is_on res.0) e ∙ eq-eqb res.0 res.0 refl
-
-off_it : (r : Row) (res : ResId) (g : ℕ) → r.res ≡ Some res → g ≢ res.0 → is_on g r.res ≡ false
+-- a row that is on one resource is on no other
+pub off_it : (r : Row) (res : ResId) (g : ℕ) → r.res ≡ Some res → g ≢ res.0 → is_on g r.res ≡ false
 off_it r res g e ne = ap (is_on g) e ∙ not_equal res.0 g (λ same. ne (sym same))
 
-slice_get_low : (notes : List ResourceNotes) (g : ℕ) (n : ResourceNotes) → slice_get notes g ≡ Some n → g < length notes
-slice_get_low [] g n e = absurd (cc)
-slice_get_low (x ∷ notes) zero n e = omega arith
-slice_get_low (x ∷ notes) (suc g) n e = let l = slice_get_low notes g n e in omega (arith, l)
+-- a row that is on it
+pub noted_on : (plan : PlanModel) (rows : List Row) (r : Row) (res : ResId) (one new : ResourceNotes) → IsPlan plan → IsRunStart plan (rows ++ r ∷ []) → r.res ≡ Some res → IsNoted rows res.0 one
+    → ((is_request r.kind ≡ true → length one.queue.items < 8) → new.queue.items ≡ queue_with r.kind one.queue.items (record { number = length rows + 1; row = r })) → new.last ≡ last_with r.kind one.last (record { number = length rows + 1; row = r }) → IsCountStep r one new
+    → IsNoted (rows ++ r ∷ []) res.0 new
+noted_on plan rows r res one new ok start on before queue last counts =
+    let here : is_on res.0 r.res ≡ true = ap (is_on res.0) on ∙ eq-eqb res.0 res.0 refl in
+    let e : Numbered = record { number = length rows + 1; row = r } in
+    let queued = queue (λ request. subst (λ q. length q < 8) (sym before.queue) (request_short plan rows r res.0 ok start here request)) ∙ (ap (λ q. queue_with r.kind q e) before.queue ∙ queue_noted plan rows r res.0 ok start here) in
+    record {
+      queue = queued;
+      last = last ∙ (ap (λ l. last_with r.kind l e) before.last ∙ last_noted res.0 rows r here);
+      counts = counts_on res.0 rows r one new (few_before plan rows r ok start) here counts before.last queued before.counts;
+    }
 
-module _ (plan : PlanModel) (rows : List Row) (r : Row) (old : List ResourceNotes) (noted : (g : ℕ) (n : ResourceNotes) → slice_get old g ≡ Some n → IsNoted rows g n) where
-  -- a row on none of them leaves them
-  pub each_off : ((g : ℕ) → g < length old → is_on g r.res ≡ false) → (g : ℕ) (n : ResourceNotes) → slice_get old g ≡ Some n → IsNoted (rows ++ r ∷ []) g n
-  each_off off g n has =
-      let is = noted g n has in
-      let away = off g (slice_get_low old g n has) in
-      record { queue = is.queue ∙ queue_off g rows r away; last = is.last ∙ last_off g rows r away; counts = counts_off g rows r n.counts away is.counts }
+-- ---- whether a job is inside a critical section
+any_places : {X : Type 0} (p : X → Bool) (q : ℕ → Bool) (xs : List X) (k : ℕ) → ((i : ℕ) (x : X) → slice_get xs i ≡ Some x → p x ≡ q (k + i)) → list_any p xs ≡ list_any q (range_with_len k (length xs))
+any_places p q [] k h = refl
+any_places p q (x ∷ xs) k h =
+    let here : k + 0 ≡ k = omega arith in
+    ap (λ b. b || list_any p xs) (h 0 x refl ∙ ap q here) ∙ ap (λ b. q k || b) (any_places p q xs (k + 1) (λ i y e. let there : k + suc i ≡ k + 1 + i = omega arith in h (suc i) y e ∙ ap q there))
 
-  -- a row on one of them
-  pub each_on : (res : ResId) (one new : ResourceNotes) → IsPlan plan → IsRunStart plan (rows ++ r ∷ []) → r.res ≡ Some res → slice_get old res.0 ≡ Some one
-      → ((is_request r.kind ≡ true → length one.queue.items < 8) → new.queue.items ≡ queue_with r.kind one.queue.items (record { number = length rows + 1; row = r })) → new.last ≡ last_with r.kind one.last (record { number = length rows + 1; row = r }) → IsCountStep r one new
-      → (g : ℕ) (n : ResourceNotes) → slice_get (slice_set old res.0 new) g ≡ Some n → IsNoted (rows ++ r ∷ []) g n
-  each_on res one new ok start on has queue last counts g n is = by_place (g == res.0) refl
-    where
-      before : IsNoted rows res.0 one
-      before = noted res.0 one has
-
-      now : IsNoted (rows ++ r ∷ []) res.0 new
-      now =
-          let here = on_it r res on in
-          let e : Numbered = record { number = length rows + 1; row = r } in
-          let queued = queue (λ request. subst (λ q. length q < 8) (sym before.queue) (request_short plan rows r res.0 ok start here request))
-          ∙ (ap (λ q. queue_with r.kind q e) before.queue ∙ queue_noted plan rows r res.0 ok start here) in
-          record {
-            queue = queued;
-            last = last ∙ (ap (λ l. last_with r.kind l e) before.last ∙ last_noted res.0 rows r here);
-            counts = counts_on res.0 rows r one new (few_before plan rows r ok start) here counts before.last queued before.counts;
-          }
-
-      by_place : (b : Bool) → (g == res.0) ≡ b → IsNoted (rows ++ r ∷ []) g n
-      by_place true e =
-          let at : g ≡ res.0 = eqb-true g res.0 e in
-          let same : new ≡ n = same_Some new n (sym (get_set_same old res.0 one new has) ∙ subst (λ k. slice_get (slice_set old res.0 new) k ≡ Some n) at is) in
-          subst (λ k. IsNoted (rows ++ r ∷ []) k n) (sym at) (subst (IsNoted (rows ++ r ∷ []) res.0) same now)
-      by_place false e =
-          let ne : g ≢ res.0 = eqb-false g res.0 e in
-          let was = noted g n (sym (get_set_other old res.0 g new ne) ∙ is) in
-          let away = off_it r res g on ne in
-          record { queue = was.queue ∙ queue_off g rows r away; last = was.last ∙ last_off g rows r away; counts = counts_off g rows r n.counts away was.counts }
+pub inside_noted : (plan : PlanModel) (rows : List Row) (j : JobId) (notes : List ResourceNotes) → length notes ≡ length plan.resources → ((g : ℕ) (n : ResourceNotes) → slice_get notes g ≡ Some n → IsNoted rows g n)
+    → list_any (λ n. is_user j n.last n.queue.items) notes ≡ is_inside plan rows (Some j)
+inside_noted plan rows j notes size each =
+    let q : ℕ → Bool = λ g. is_user j (last_change g rows) (queue_rows g rows) in
+    any_places (λ n. is_user j n.last n.queue.items) q notes 0 (λ g n has.
+    let is = each g n has in
+    let at : g ≡ 0 + g = omega arith in
+    ap (λ l. is_user j l n.queue.items) is.last ∙ (ap (is_user j (last_change g rows)) is.queue ∙ ap q at)) ∙ ap (λ m. list_any q (range_with_len 0 m)) size
 
 -- ---- how many rows were noted
 pub one_more : (plan : PlanModel) (rows : List Row) (r : Row) (k n : ℕ) → IsPlan plan → IsRunStart plan (rows ++ r ∷ []) → k ≡ length rows → n ≡ min (k + 1) (2 ^ 32 - 1) → n ≡ length rows + 1
@@ -309,10 +270,3 @@ one_more plan rows r k n ok start at is =
     let size = length-append rows (r ∷ []) in
     let few = few_before plan rows r ok start in
     is ∙ (min-eq_left (omega (arith, at, size, few)) ∙ ap (λ m. m + 1) at)
-
--- a row that is on no resource, or on none of the plan
-pub noted_off : (plan : PlanModel) (rows : List Row) (r : Row) (notes : List ResourceNotes) → ((g : ℕ) (n : ResourceNotes) → slice_get notes g ≡ Some n → IsNoted rows g n) → r.res ≡ None → (g : ℕ) (n : ResourceNotes) → slice_get notes g ≡ Some n → IsNoted (rows ++ r ∷ []) g n
-noted_off plan rows r notes noted none = each_off plan rows r notes noted (λ g low. ap (is_on g) none)
-
-pub noted_past : (plan : PlanModel) (rows : List Row) (r : Row) (res : ResId) (notes : List ResourceNotes) → ((g : ℕ) (n : ResourceNotes) → slice_get notes g ≡ Some n → IsNoted rows g n) → r.res ≡ Some res → length notes ≤ res.0 → (g : ℕ) (n : ResourceNotes) → slice_get notes g ≡ Some n → IsNoted (rows ++ r ∷ []) g n
-noted_past plan rows r res notes noted on past = each_off plan rows r notes noted (λ g low. off_it r res g on (omega (arith, low, past)))

@@ -1,11 +1,5 @@
 pub mod NumberedRows
 pub mod Noted
 pub mod Causes
-pub mod FactLines
-pub mod ResourceText
-pub mod WhyText
 pub mod Exercise
-pub mod ExerciseText
-pub mod Misfits
-pub mod RefusalText
 pub mod Inside

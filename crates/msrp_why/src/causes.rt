@@ -1,4 +1,4 @@
-//! The cause of a fault, kept as rows are judged.
+//! The cause of a fault, as data.
 ghost use Rattle.std.specs.Prelude.{◌≡◌, ◌<◌, ◌*◌, ◌++◌, ◌∷◌, if◌then◌else◌};
 ghost use Rattle.msrp_plan.specs.Common.{[], List, None, length, fault_in, IsPlan};
 ghost use Rattle.msrp_audit.specs.Audits.{HasFed, IsBroken};
@@ -16,25 +16,25 @@ use msrp_plan::{CoreId, Fault, Plan, Row};
 /// The most cores that may have a turn.
 pub const MOST_TURNS: usize = MOST_CORES as usize;
 
-/// The first row that breaks a rule, and what was known before it.
+/// The first row that violates a rule, and what was known before it.
 #[derive(Debug, Drop)]
 pub struct Cause {
     pub fault: Fault,
-    /// The row that breaks the rule.
+    /// The row that violates the rule.
     pub row: Row,
     /// The line in which its record begins, where that is known.
     pub line: Option<u64>,
-    /// The row that was due of its core, where the row is in its turn.
-    pub due: Option<Row>,
-    /// What decided before the row who had the turn of its core, where the plan has the core.
+    /// The expected row of its core, where the row is in its turn.
+    pub expected: Option<Row>,
+    /// What decided before the row who runs on its core, where the plan has the core.
     pub state: Option<CoreState>,
-    /// The cores that had their turns in the tick that was due still to come, where the row isn't in its turn.
+    /// The cores that had their turns in the expected tick still to come, where the row isn't in its turn.
     pub turns: ArrayVec<u32, MOST_TURNS>,
-    /// What was noted of each resource before the row.
+    /// What was noted of the rows before.
     pub notes: Notes,
 }
 
-/// What a verdict stands on.
+/// What a verdict rests on.
 #[derive(Debug, Drop)]
 pub enum Ground {
     /// The cause of a fault at a row.
@@ -52,7 +52,7 @@ fn push_if(found: &mut ArrayVec<u32, MOST_TURNS>, core: u32, has_turn: bool)
     }
 }
 
-// The cores that have their turns in the tick that is due still to come.
+// The cores that have their turns in the expected tick still to come.
 fn cores_with_turn(plan: &Plan, auditor: &Auditor<'_>) -> ArrayVec<u32, MOST_TURNS>
     requires plan { auditor.now.plan ≡ plan.now }
     ensures turns { (rows : List TraceRow) → HasFed auditor.now rows → auditor.now.fault ≡ None → length rows < plan.now.cores * plan.now.ticks → result.items ≡ cores_with_turn plan.now rows }
@@ -65,19 +65,20 @@ fn cores_with_turn(plan: &Plan, auditor: &Auditor<'_>) -> ArrayVec<u32, MOST_TUR
     found
 }
 
-/// The cause of the fault of a row, which an auditor has judged: `due` is the row that was due of its core, where the row is in its turn, the
-/// notes are those of the rows before it, and `line` is the line in which its record begins, where that is known.
+/// The cause of the fault of a row, which an auditor has judged. `expected` is the expected row of its core, where the row is
+/// in its turn; the notes are those of the rows before; `line` is the line in which the row's record begins, where that is
+/// known.
 pub fn cause_of(
     plan: &Plan,
     auditor: &Auditor<'_>,
     notes: Notes,
-    due: Option<Row>,
+    expected: Option<Row>,
     row: Row,
     line: Option<u64>,
     fault: Fault,
 ) -> Cause
     requires plan { auditor.now.plan ≡ plan.now }
-    ensures cause { (rows : List TraceRow) → fault_in plan.now rows ≡ None → IsBroken plan.now rows row fault due auditor.now → AreNoted plan.now rows notes → IsCauseAfter plan.now rows row result }
+    ensures cause { (rows : List TraceRow) → fault_in plan.now rows ≡ None → IsBroken plan.now rows row fault expected auditor.now → AreNoted plan.now rows notes → IsCauseAfter plan.now rows row result }
     ensures line { result.line ≡ line }
 {
     let turns = cores_with_turn(plan, auditor);
@@ -86,7 +87,7 @@ pub fn cause_of(
         fault,
         row,
         line,
-        due,
+        expected,
         state,
         turns,
         notes,

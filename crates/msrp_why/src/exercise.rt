@@ -1,22 +1,18 @@
-//! What a run exercised, counted as its rows are judged.
+//! What a run exercised, counted as its rows are judged: a trace in which nothing happens is legal too.
 ghost use Rattle.std.specs.Prelude.{◌≡◌, ◌&&◌, ◌<◌, ◌++◌, ◌∷◌};
-ghost use Rattle.msrp_plan.specs.Common.{[], List, length, not, true, ForSome, IsRunStart, PlanModel, units, IsPlan};
+ghost use Rattle.msrp_plan.specs.Common.{[], List, length, not, true, ForSome, IsRunStart, IsPlan, is_grant, release_tick, is_queue};
 ghost use Rattle.msrp_plan.specs.declared.rows.Row.{Row as TraceRow};
-ghost use Rattle.msrp_why.specs.Exercise.{AreTurnCounts, ends, is_at, is_entry, is_grant, is_in_tick, is_kept, is_met, is_opening, is_other, is_past, is_queue, one_if};
-ghost use Rattle.msrp_why.specs.FactLines.{is_job_of, units_done};
-ghost use Rattle.msrp_why.specs.Inside.Turns.{finishes_from, nests_from};
-ghost use Rattle.msrp_why.specs.Noted.{IsCoreNoted};
-ghost use Rattle.msrp_why.specs.Inside.Sections.{AreSections};
+ghost use Rattle.msrp_why.specs.Exercise.{AreTurnCounts, ends, is_at, is_entry, is_in_tick, is_kept, is_met, is_other, is_past, one_if, nests};
+ghost use Rattle.msrp_why.specs.Inside.Turns.{finishes_from, is_job_of, units_done};
+ghost use Rattle.std.specs.Option.{IsSome};
+ghost use Rattle.msrp_core.specs.CoreStates.{IsCoreState};
 
-use crate::cores::CoreNotes;
 use crate::notes::Numbered;
-use crate::sections::Sections;
-use crate::telling::{is_job_of, units_done};
 use msrp_core::CoreState;
 use msrp_levels::Levels;
 use msrp_plan::{JobId, Kind, Plan, Row};
 
-/// How often the rows on a resource found what.
+/// What the rows on a resource met, in numbers of rows.
 #[derive(Clone, Copy, Debug)]
 pub struct ResourceCounts {
     /// The rows that found it free.
@@ -27,62 +23,40 @@ pub struct ResourceCounts {
     pub at_once: u32,
     /// The grants in a later tick.
     pub later: u32,
-    /// The most that stood in its queue.
+    /// The most jobs in its queue.
     pub longest: usize,
 }
 
-/// How often the turns of the cores met what.
+/// What the turns of the cores met, in numbers of turns.
 #[derive(Clone, Copy, Debug)]
 pub struct TurnCounts {
-    /// The jobs that finished.
+    /// A job finished.
     pub finished: u32,
-    /// Those that finished after their absolute deadline.
+    /// A job finished after its absolute deadline.
     pub late: u32,
-    /// Those that finished in the last tick before it.
+    /// A job finished exactly at its absolute deadline.
     pub at_deadline: u32,
-    /// The turns in which the level of a core's head was not above its ceiling.
+    /// The level of the core's head was not above its ceiling.
     pub kept: u32,
-    /// Those in which it was equal to the ceiling.
+    /// The level of the core's head was equal to its ceiling.
     pub at_ceiling: u32,
-    /// The turns in which a job preempted another.
+    /// A job preempted another.
     pub preempted: u32,
-    /// The rows that locked or requested a resource while their job had a section open.
+    /// A job locked or requested a resource inside a critical section.
     pub nested: u32,
 }
 
-// One more, if so.
-#[inline(always)]
-pub(crate) fn one_if(count: u32, so: bool) -> u32
+// One more, if so. No count reaches the limit: there are at most 160,000 rows.
+fn one_if(count: u32, so: bool) -> u32
     ensures { result ≡ one_if count so }
 {
-    if so { count.saturating_add(1) } else { count }
+    count.saturating_add(u32::from(so))
 }
 
-fn is_entry(kind: Kind) -> bool
-    ensures { result ≡ is_entry kind }
+fn both(one: bool, other: bool) -> bool
+    ensures { result ≡ (one && other) }
 {
-    match kind {
-        Kind::Lock | Kind::Take => true,
-        _ => false,
-    }
-}
-
-pub(crate) fn is_queue(kind: Kind) -> bool
-    ensures { result ≡ is_queue kind }
-{
-    match kind {
-        Kind::Queue => true,
-        _ => false,
-    }
-}
-
-fn is_grant(kind: Kind) -> bool
-    ensures { result ≡ is_grant kind }
-{
-    match kind {
-        Kind::Grant => true,
-        _ => false,
-    }
+    one && other
 }
 
 fn is_in_tick(tick: u32, last: Option<Numbered>) -> bool
@@ -97,11 +71,7 @@ fn is_in_tick(tick: u32, last: Option<Numbered>) -> bool
 impl ResourceCounts {
     /// Before the first row.
     pub(crate) fn new() -> ResourceCounts
-        ensures free { result.free ≡ 0 }
-        ensures joined { result.joined ≡ 0 }
-        ensures at_once { result.at_once ≡ 0 }
-        ensures later { result.later ≡ 0 }
-        ensures longest { result.longest ≡ 0 }
+        ensures { result ≡ record { free = 0; joined = 0; at_once = 0; later = 0; longest = 0 } }
     {
         ResourceCounts {
             free: 0,
@@ -112,7 +82,7 @@ impl ResourceCounts {
         }
     }
 
-    /// After a row on the resource, where the last change of it is told.
+    /// After a row on the resource, where the last change of it before is known.
     pub(crate) fn note(&mut self, row: Row, last: Option<Numbered>)
         ensures free { self.new.free ≡ one_if self.old.free (is_entry row.kind) }
         ensures joined { self.new.joined ≡ one_if self.old.joined (is_queue row.kind) }
@@ -120,17 +90,35 @@ impl ResourceCounts {
         ensures later { self.new.later ≡ one_if self.old.later (is_grant row.kind && not (is_in_tick row.tick last)) }
         ensures longest { self.new.longest ≡ self.old.longest }
     {
-        let granted = is_grant(row.kind);
+        let granted = matches!(row.kind, Kind::Grant);
         let at_once = is_in_tick(row.tick, last);
-        self.free = one_if(self.free, is_entry(row.kind));
-        self.joined = one_if(self.joined, is_queue(row.kind));
+        self.free = one_if(self.free, matches!(row.kind, Kind::Lock | Kind::Take));
+        self.joined = one_if(self.joined, matches!(row.kind, Kind::Queue));
         self.at_once = one_if(self.at_once, granted && at_once);
         self.later = one_if(self.later, granted && !at_once);
     }
 }
 
-// Whether the row does the last unit of the job, which had done so many before.
-#[inline(always)]
+/// How many of its units the job has done: none if it isn't the job that runs.
+pub(crate) fn units_done(state: CoreState, job: JobId) -> u32
+    ensures { result ≡ units_done state job }
+{
+    match state.running {
+        Some(running) if running == job => state.done,
+        _ => 0,
+    }
+}
+
+/// Whether there is such a job.
+pub(crate) fn is_job_of(plan: &Plan, job: JobId) -> bool
+    ensures is { result ≡ is_job_of plan.now job }
+    ensures task { result ≡ true → job.task.0 < length plan.now.tasks }
+    ensures released { result ≡ true → IsSome (release_tick plan.now job) }
+{
+    job.task.0 < plan.tasks() && job.k < plan.jobs(job.task)
+}
+
+// Whether a row of this kind does the last unit of the job, which had done this many before.
 fn ends(plan: &Plan, kind: Kind, before: u32, job: JobId) -> bool
     requires { job.task.0 < length plan.now.tasks }
     ensures { result ≡ ends plan.now kind before job }
@@ -142,7 +130,6 @@ fn ends(plan: &Plan, kind: Kind, before: u32, job: JobId) -> bool
 }
 
 // Whether the row does the last unit of its job.
-#[inline(always)]
 fn finishes(plan: &Plan, state: CoreState, row: Row) -> bool
     ensures { ForSome row.job (λ j. j.task.0 < length plan.now.tasks) → result ≡ finishes_from plan.now state row.kind row.job }
 {
@@ -176,25 +163,8 @@ fn is_at(plan: &Plan, tick: u32, job: Option<JobId>) -> bool
     }
 }
 
-// Whether the job finishes, and that after its absolute deadline.
-#[inline(always)]
-fn is_late(plan: &Plan, finishes: bool, row: Row) -> bool
-    ensures { ForSome row.job (λ j. is_job_of plan.now j ≡ true) → result ≡ (finishes && is_past plan.now row.tick row.job) }
-{
-    finishes && is_past(plan, row.tick, row.job)
-}
-
-// Whether the job finishes, and that in the last tick before it.
-#[inline(always)]
-fn is_in_time(plan: &Plan, finishes: bool, row: Row) -> bool
-    ensures { ForSome row.job (λ j. is_job_of plan.now j ≡ true) → result ≡ (finishes && is_at plan.now row.tick row.job) }
-{
-    finishes && is_at(plan, row.tick, row.job)
-}
-
 // Whether the level of the head isn't above the ceiling.
-#[inline(always)]
-pub(crate) fn is_kept(plan: &Plan, levels: &Levels<'_>, state: CoreState) -> bool
+fn is_kept(plan: &Plan, levels: &Levels<'_>, state: CoreState) -> bool
     requires levels { levels.now ≡ plan.now }
     ensures { ForSome state.head (λ h. h.task.0 < length plan.now.tasks) → result ≡ is_kept plan.now state.ceiling state.head }
 {
@@ -205,8 +175,7 @@ pub(crate) fn is_kept(plan: &Plan, levels: &Levels<'_>, state: CoreState) -> boo
 }
 
 // Whether the level of the head is equal to the ceiling.
-#[inline(always)]
-pub(crate) fn is_met(plan: &Plan, levels: &Levels<'_>, state: CoreState) -> bool
+fn is_met(plan: &Plan, levels: &Levels<'_>, state: CoreState) -> bool
     requires levels { levels.now ≡ plan.now }
     ensures { ForSome state.head (λ h. h.task.0 < length plan.now.tasks) → result ≡ is_met plan.now state.ceiling state.head }
 {
@@ -216,28 +185,7 @@ pub(crate) fn is_met(plan: &Plan, levels: &Levels<'_>, state: CoreState) -> bool
     }
 }
 
-#[inline(always)]
-fn is_opening(kind: Kind) -> bool
-    ensures { result ≡ is_opening kind }
-{
-    match kind {
-        Kind::Lock | Kind::Take | Kind::Queue => true,
-        _ => false,
-    }
-}
-
-// Whether the row opens a section while its job has one open.
-fn nests(sections: &Sections, state: CoreState, row: Row) -> bool
-    ensures { (plan : PlanModel) → AreSections plan sections.now → ForSome row.job (λ j. units_done state j < length (units plan j)) → ForSome row.job (λ j. j.task.0 < length plan.tasks) → result ≡ nests_from plan state row.kind row.job }
-{
-    match row.job {
-        Some(job) => is_opening(row.kind) && sections.is_open(job, units_done(state, job)),
-        None => false,
-    }
-}
-
 // Whether another job runs.
-#[inline(always)]
 fn is_other(running: Option<JobId>, job: Option<JobId>) -> bool
     ensures { result ≡ is_other running job }
 {
@@ -250,13 +198,7 @@ fn is_other(running: Option<JobId>, job: Option<JobId>) -> bool
 impl TurnCounts {
     /// Before the first row.
     pub(crate) fn new() -> TurnCounts
-        ensures finished { result.finished ≡ 0 }
-        ensures late { result.late ≡ 0 }
-        ensures at_deadline { result.at_deadline ≡ 0 }
-        ensures kept { result.kept ≡ 0 }
-        ensures at_ceiling { result.at_ceiling ≡ 0 }
-        ensures preempted { result.preempted ≡ 0 }
-        ensures nested { result.nested ≡ 0 }
+        ensures { result ≡ record { finished = 0; late = 0; at_deadline = 0; kept = 0; at_ceiling = 0; preempted = 0; nested = 0 } }
     {
         TurnCounts {
             finished: 0,
@@ -269,31 +211,32 @@ impl TurnCounts {
         }
     }
 
-    /// After a turn that met no more than what its head met.
-    #[inline(always)]
-    pub(crate) fn note_again(&mut self, kept: bool, at_ceiling: bool)
-        ensures { self.new ≡ record self.old { kept = one_if self.old.kept kept; at_ceiling = one_if self.old.at_ceiling at_ceiling } }
+    /// After a legal row, where the state of its core before the row is known, and whether the row opens a critical section
+    /// inside another.
+    pub(crate) fn note(
+        &mut self,
+        plan: &Plan,
+        levels: &Levels<'_>,
+        state: CoreState,
+        nested: bool,
+        row: Row,
+    )
+        requires levels { levels.now ≡ plan.now }
+        requires accepted { IsPlan plan.now }
+        ensures { (rows : List TraceRow) → IsRunStart plan.now (rows ++ row ∷ []) → IsCoreState plan.now row.core.0 row.tick rows state → nested ≡ nests plan.now rows row → AreTurnCounts plan.now rows self.old → AreTurnCounts plan.now (rows ++ row ∷ []) self.new }
     {
-        self.kept = one_if(self.kept, kept);
-        self.at_ceiling = one_if(self.at_ceiling, at_ceiling);
-    }
-
-    /// After a legal row, where it is noted what decided it.
-    pub(crate) fn note(&mut self, plan: &Plan, sections: &Sections, core: &CoreNotes, row: Row)
-        requires { IsPlan plan.now }
-        ensures { (rows : List TraceRow) → IsRunStart plan.now (rows ++ row ∷ []) → AreSections plan.now sections.now → IsCoreNoted plan.now rows row.core.0 core.now → AreTurnCounts plan.now rows self.old → AreTurnCounts plan.now (rows ++ row ∷ []) self.new }
-    {
-        let state = core.state;
-        let finishes = finishes(plan, state, row);
-        let late = is_late(plan, finishes, row);
-        let at_deadline = is_in_time(plan, finishes, row);
-        let preempts = is_other(state.running, row.job);
-        let nests = nests(sections, state, row);
-        self.note_again(core.is_kept, core.is_at_ceiling);
-        self.finished = one_if(self.finished, finishes);
+        let finished = finishes(plan, state, row);
+        let late = both(finished, is_past(plan, row.tick, row.job));
+        let at_deadline = both(finished, is_at(plan, row.tick, row.job));
+        let kept = is_kept(plan, levels, state);
+        let at_ceiling = is_met(plan, levels, state);
+        let preempted = is_other(state.running, row.job);
+        self.finished = one_if(self.finished, finished);
         self.late = one_if(self.late, late);
         self.at_deadline = one_if(self.at_deadline, at_deadline);
-        self.preempted = one_if(self.preempted, preempts);
-        self.nested = one_if(self.nested, nests);
+        self.kept = one_if(self.kept, kept);
+        self.at_ceiling = one_if(self.at_ceiling, at_ceiling);
+        self.preempted = one_if(self.preempted, preempted);
+        self.nested = one_if(self.nested, nested);
     }
 }

@@ -1,28 +1,23 @@
-//! Why a row of a trace is refused: the row, the rule, the row that was due in its place, and what makes it so.
+//! Why a row of a trace is refused: the row, the rule, the row expected in its place, and the facts that decide it.
 //!
-//! [`feed`] judges a row, and tells of one that breaks a rule what was due; [`cause_of`] keeps it as a cause. [`write_cause`] tells it in plain sentences, and [`write_exercise`] what a legal run exercised; [`write_refused`] tells what is wrong with a record that tells no row. [`laws`]
-//! are theorems about what is noted.
+//! [`Notes`] are kept row by row while an auditor judges a trace; [`cause_of`] makes the cause of a fault of them. What a
+//! cause holds is proved. Its text ([`write_cause`], [`write_missing`], [`write_exercise`], [`write_refused`]) is tested.
+//! [`laws`] are theorems about what is noted.
 #![tactic(auto)]
 
 mod causes;
-mod cores;
 mod exercise;
-mod exercised;
 pub mod laws;
 mod misfits;
 mod notes;
 mod refusals;
-mod resources;
-mod sections;
-mod sentences;
+mod rows;
 mod telling;
+mod tried;
 
 pub use causes::{Cause, Ground, cause_of};
-pub use cores::CoreNotes;
 pub use exercise::{ResourceCounts, TurnCounts};
-pub use exercised::write_exercise;
-pub use misfits::Misfit;
 pub use notes::{Notes, Numbered, ResourceNotes};
 pub use refusals::write_refused;
-pub use sections::Sections;
 pub use telling::{write_cause, write_missing};
+pub use tried::write_exercise;

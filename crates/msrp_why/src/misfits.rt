@@ -1,245 +1,201 @@
-//! What is wrong with a refused record of a trace.
-ghost use Rattle.std.specs.Prelude.{◌≡◌, ◌<◌};
-ghost use Rattle.std.specs.Option.{IfSome};
-ghost use Rattle.csv.specs.Records.{fields_of};
-ghost use Rattle.msrp_trace.specs.Rows.{is_number};
-ghost use Rattle.msrp_text.specs.Fields.{number_at};
-ghost use Rattle.msrp_why.specs.Misfits as spec;
-ghost use Rattle.msrp_why.specs.Misfits.{head_misfit, is_none_at, is_task_named, misfit_of, name_misfit, number_misfit, place_of, shape_misfit};
+//! What is wrong with a refused record of a trace, in words. A record without fields is the end of the text.
+ghost use Rattle.std.specs.Prelude.{◌<◌};
+ghost use Rattle.msrp_plan.specs.Common.{IfSome};
+ghost use Rattle.std.proofs.Props.{props};
 
+use crate::rows::{res_name, task_name};
 use csv::ByteRecord;
-use msrp_plan::Plan;
+use msrp_plan::{Plan, ResId, TaskId};
 use msrp_text::fields::{has_word, name_at, number_at};
 use msrp_trace::TraceFault;
+use std::fmt;
 
-/// What is wrong with a refused record of a trace.
-#[derive(Clone, Copy, Debug, PartialEq, Eq)]
-pub enum Misfit {
-    /// The text has no record.
-    NoRecord,
-    /// A plan where a trace is due.
-    PlanGiven,
-    /// Something else stands where a trace begins.
-    NoHead,
-    /// Not the four fields of the first record.
-    HeadFields,
-    /// A version that isn't known.
-    UnknownVersion,
-    /// Another number of cores than the plan's.
-    OtherCores,
-    /// Another number of ticks than the plan's.
-    OtherTicks,
-    /// Not the fields of a row.
-    RowFields,
-    /// A tick that is no number.
-    NoTick,
-    /// A core that is no number.
-    NoCore,
-    /// A job that is neither a number nor `-`.
-    NoJob,
-    /// A number of jobs ahead that is neither a number nor `-`.
-    NoAhead,
-    /// A kind that isn't known.
-    UnknownKind,
-    /// A task that the plan lacks.
-    UnknownTask,
-    /// A resource that the plan lacks.
-    UnknownResource,
-    /// An idle row with a task, a job or a resource.
-    IdleParts,
-    /// A run row without a task or a job, or with a resource.
-    RunParts,
-    /// Another row without a task, a job or a resource.
-    AllParts,
-    /// A queue row without the number of jobs ahead.
-    LacksAhead,
-    /// Another row with one.
-    StrayAhead,
-    /// No fault of a record.
-    Unread,
+/// What the plan says of it, after the sentence.
+#[derive(Clone, Copy)]
+enum Allowed {
+    Nothing,
+    FirstRecord,
+    Cores,
+    Ticks,
+    Tasks,
+    Resources,
 }
 
-// Whether a field says that there is none.
-fn is_none_at(row: &ByteRecord, i: usize) -> bool
-    ensures { result ≡ is_none_at (fields_of row.now) i }
-{
-    has_word(row, i, b"-")
+/// What is wrong with a refused record: the field, counted from 0, where it is one, and in words.
+#[derive(Clone, Copy)]
+pub(crate) struct Misfit {
+    pub field: Option<usize>,
+    sentence: &'static str,
+    allowed: Allowed,
+    ghost seven: { IfSome field (λ i. i < 7) } by { Prim.hlevel props },
 }
 
-// Whether a field is that number.
-fn is_number_at(row: &ByteRecord, i: usize, number: u32) -> bool
-    ensures { result ≡ is_number number (number_at (fields_of row.now) i) }
-{
-    match number_at(row, i) {
-        Some(told) => told == number,
-        None => false,
+impl Misfit {
+    fn of(sentence: &'static str) -> Misfit {
+        Misfit {
+            field: None,
+            sentence,
+            allowed: Allowed::Nothing,
+        }
+    }
+
+    fn at(field: usize, sentence: &'static str) -> Misfit
+        requires { field < 7 }
+    {
+        Misfit {
+            field: Some(field),
+            sentence,
+            allowed: Allowed::Nothing,
+        }
+    }
+
+    fn allowing(self, allowed: Allowed) -> Misfit {
+        Misfit {
+            field: self.field,
+            sentence: self.sentence,
+            allowed,
+        }
     }
 }
 
+fn is_none_at(row: &ByteRecord, i: usize) -> bool {
+    has_word(row, i, b"-")
+}
+
 // R1.
-fn head_misfit(plan: &Plan, row: &ByteRecord) -> Misfit
-    ensures { result ≡ head_misfit plan.now (fields_of row.now) }
-{
+fn head_misfit(plan: &Plan, row: &ByteRecord) -> Misfit {
     if row.len() == 0 {
-        Misfit::NoRecord
+        Misfit::of("the trace is empty; its first record must be ").allowing(Allowed::FirstRecord)
     } else if has_word(row, 0, b"msrp") {
-        Misfit::PlanGiven
-    } else if !has_word(row, 0, b"msrp-trace") {
-        Misfit::NoHead
-    } else if row.len() != 4 {
-        Misfit::HeadFields
-    } else if !(has_word(row, 1, b"1") || has_word(row, 1, b"2")) {
-        Misfit::UnknownVersion
-    } else if !is_number_at(row, 2, plan.cores()) {
-        Misfit::OtherCores
+        Misfit::of("this is a plan; give the plan first, then the trace")
+    } else if !has_word(row, 0, b"msrp-trace") || row.len() != 4 {
+        Misfit::of("the first record must be ").allowing(Allowed::FirstRecord)
+    } else if !has_word(row, 1, b"1") && !has_word(row, 1, b"2") {
+        Misfit::at(1, "unknown trace version; must be 1 or 2")
+    } else if number_at(row, 2) != Some(plan.cores()) {
+        Misfit::at(2, "wrong number of cores; the plan has ").allowing(Allowed::Cores)
     } else {
-        Misfit::OtherTicks
+        Misfit::at(3, "wrong number of ticks; the plan has ").allowing(Allowed::Ticks)
     }
 }
 
 // R3.
-fn number_misfit(row: &ByteRecord) -> Misfit
-    ensures { result ≡ number_misfit (fields_of row.now) }
-{
+fn number_misfit(row: &ByteRecord) -> Misfit {
+    let whole = "not a whole number: no sign, decimal point or leading zero, at most 9 digits";
     if number_at(row, 0).is_none() {
-        Misfit::NoTick
+        Misfit::at(0, whole)
     } else if number_at(row, 1).is_none() {
-        Misfit::NoCore
+        Misfit::at(1, whole)
     } else if !is_none_at(row, 4) && number_at(row, 4).is_none() {
-        Misfit::NoJob
+        Misfit::at(
+            4,
+            "the job must be - or a whole number; jobs are numbered from 0",
+        )
     } else {
-        Misfit::NoAhead
+        Misfit::at(6, "the queue length must be - or a whole number")
     }
-}
-
-// Whether the task is the plan's, or there is none.
-fn is_task_named(plan: &Plan, row: &ByteRecord) -> bool
-    ensures { result ≡ is_task_named plan.now (fields_of row.now) }
-{
-    is_none_at(row, 3) || plan.task_of(name_at(row, 3)).is_some()
 }
 
 // R5.
-fn name_misfit(plan: &Plan, row: &ByteRecord) -> Misfit
-    ensures { result ≡ name_misfit plan.now (fields_of row.now) }
-{
-    if is_task_named(plan, row) {
-        Misfit::UnknownResource
+fn name_misfit(plan: &Plan, row: &ByteRecord) -> Misfit {
+    if is_none_at(row, 3) || plan.task_of(name_at(row, 3)).is_some() {
+        Misfit::at(5, "the plan has no resource of this name; its resources:").allowing(
+            Allowed::Resources,
+        )
     } else {
-        Misfit::UnknownTask
+        Misfit::at(3, "the plan has no task of this name; its tasks:").allowing(Allowed::Tasks)
     }
 }
 
-fn has_none(row: &ByteRecord) -> bool
-    ensures { result ≡ spec.has_none (fields_of row.now) }
+// The first of the fields for a task, a job and a resource that should be `-`, or shouldn't.
+fn part_that(row: &ByteRecord, is_none: bool) -> usize
+    ensures { result < 7 }
 {
-    is_none_at(row, 3) && is_none_at(row, 4) && is_none_at(row, 5)
-}
-
-fn has_job_alone(row: &ByteRecord) -> bool
-    ensures { result ≡ spec.has_job_alone (fields_of row.now) }
-{
-    !is_none_at(row, 3) && !is_none_at(row, 4) && is_none_at(row, 5)
-}
-
-fn has_all(row: &ByteRecord) -> bool
-    ensures { result ≡ spec.has_all (fields_of row.now) }
-{
-    !is_none_at(row, 3) && !is_none_at(row, 4) && !is_none_at(row, 5)
-}
-
-// The number of jobs ahead of a row that has a task, a job and a resource.
-fn ahead_misfit(row: &ByteRecord) -> Misfit
-    ensures { result ≡ spec.ahead_misfit (fields_of row.now) }
-{
-    if has_word(row, 2, b"queue") {
-        Misfit::LacksAhead
+    if is_none_at(row, 3) == is_none {
+        3
+    } else if is_none_at(row, 4) == is_none {
+        4
     } else {
-        Misfit::StrayAhead
+        5
     }
 }
 
 // R6.
-fn shape_misfit(row: &ByteRecord) -> Misfit
-    ensures { result ≡ shape_misfit (fields_of row.now) }
-{
-    if has_word(row, 2, b"idle") {
-        if has_none(row) {
-            Misfit::StrayAhead
-        } else {
-            Misfit::IdleParts
-        }
-    } else if has_word(row, 2, b"run") {
-        if has_job_alone(row) {
-            Misfit::StrayAhead
-        } else {
-            Misfit::RunParts
-        }
-    } else if has_all(row) {
-        ahead_misfit(row)
+fn shape_misfit(row: &ByteRecord) -> Misfit {
+    let has_job = !is_none_at(row, 3) && !is_none_at(row, 4);
+    let has_res = !is_none_at(row, 5);
+    let is_idle = has_word(row, 2, b"idle");
+    let is_run = has_word(row, 2, b"run");
+    if is_idle && !(is_none_at(row, 3) && is_none_at(row, 4) && !has_res) {
+        Misfit::at(
+            part_that(row, false),
+            "an idle row has - as task, job and resource",
+        )
+    } else if is_run && !(has_job && !has_res) {
+        Misfit::at(
+            part_that(row, true),
+            "a run row has a task and a job, and - as resource",
+        )
+    } else if !is_idle && !is_run && !(has_job && has_res) {
+        Misfit::at(
+            part_that(row, true),
+            "a row of this kind has a task, a job and a resource",
+        )
+    } else if has_word(row, 2, b"queue") {
+        Misfit::at(6, "a queue row of trace version 2 has a queue length")
     } else {
-        Misfit::AllParts
+        Misfit::at(6, "only a queue row has a queue length; must be -")
     }
 }
 
-/// What is wrong with a record that has that fault. A record without fields stands for the end of the text.
-#[tactic(auto, unfolding(crate::specs::Misfits::misfit_of))]
-pub(crate) fn misfit_of(plan: &Plan, fault: TraceFault, row: &ByteRecord) -> Misfit
-    ensures { result ≡ misfit_of plan.now fault (fields_of row.now) }
-{
+/// What is wrong with a record that has this fault.
+pub(crate) fn misfit_of(plan: &Plan, fault: TraceFault, row: &ByteRecord) -> Misfit {
     match fault {
         TraceFault::Head => head_misfit(plan, row),
-        TraceFault::FieldCount => Misfit::RowFields,
+        TraceFault::FieldCount => Misfit::of(
+            "wrong number of fields; a row has 6: tick,core,kind,task,job,resource; in trace version 2 a 7th: ahead",
+        ),
         TraceFault::Number => number_misfit(row),
-        TraceFault::Kind => Misfit::UnknownKind,
+        TraceFault::Kind => Misfit::at(
+            2,
+            "unknown kind; must be idle, run, lock, unlock, take, queue, spin, grant or release",
+        ),
         TraceFault::Name => name_misfit(plan, row),
         TraceFault::Shape => shape_misfit(row),
-        TraceFault::Read | TraceFault::Memory => Misfit::Unread,
+        TraceFault::Read | TraceFault::Memory => Misfit::of("the trace can't be read"),
     }
 }
 
-fn idle_place(row: &ByteRecord) -> usize
-    ensures place { result ≡ spec.idle_place (fields_of row.now) }
-    ensures bound { result < 7 }
-{
-    if !is_none_at(row, 3) {
-        3
-    } else if !is_none_at(row, 4) {
-        4
-    } else {
-        5
-    }
-}
+/// What is wrong, and what the plan allows.
+#[derive(Clone, Copy)]
+pub(crate) struct MisfitText<'a>(pub &'a Plan, pub Misfit);
 
-fn run_place(row: &ByteRecord) -> usize
-    ensures place { result ≡ spec.run_place (fields_of row.now) }
-    ensures bound { result < 7 }
-{
-    if is_none_at(row, 3) {
-        3
-    } else if is_none_at(row, 4) {
-        4
-    } else {
-        5
-    }
-}
-
-/// The field that is wrong, counted from 0, where it is one.
-#[tactic(auto, unfolding(crate::specs::Misfits::place_of))]
-pub(crate) fn place_of(misfit: Misfit, row: &ByteRecord) -> Option<usize>
-    ensures place { result ≡ place_of misfit (fields_of row.now) }
-    ensures bound { IfSome result (λ i. i < 7) }
-{
-    match misfit {
-        Misfit::NoTick => Some(0),
-        Misfit::UnknownVersion | Misfit::NoCore => Some(1),
-        Misfit::OtherCores | Misfit::UnknownKind => Some(2),
-        Misfit::OtherTicks | Misfit::UnknownTask => Some(3),
-        Misfit::NoJob => Some(4),
-        Misfit::UnknownResource => Some(5),
-        Misfit::NoAhead | Misfit::LacksAhead | Misfit::StrayAhead => Some(6),
-        Misfit::IdleParts => Some(idle_place(row)),
-        Misfit::RunParts | Misfit::AllParts => Some(run_place(row)),
-        _ => None,
+impl fmt::Display for MisfitText<'_> {
+    fn fmt<W: fmt::Write>(&self, f: &mut fmt::Formatter<W>) -> fmt::Result {
+        let MisfitText(plan, misfit) = *self;
+        let (cores, ticks) = (plan.cores(), plan.ticks());
+        f.write_str(misfit.sentence)?;
+        match misfit.allowed {
+            Allowed::FirstRecord => {
+                write!(
+                    f,
+                    "msrp-trace,1,{cores},{ticks} or msrp-trace,2,{cores},{ticks}"
+                )?;
+            }
+            Allowed::Cores => write!(f, "{cores}")?,
+            Allowed::Ticks => write!(f, "{ticks}")?,
+            Allowed::Tasks => {
+                for task in 0..plan.tasks() {
+                    write!(f, " {}", task_name(plan, TaskId(task)))?;
+                }
+            }
+            Allowed::Resources => {
+                for res in 0..plan.resources() {
+                    write!(f, " {}", res_name(plan, ResId(res)))?;
+                }
+            }
+            Allowed::Nothing => {}
+        }
+        Ok(())
     }
 }

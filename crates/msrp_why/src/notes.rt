@@ -1,21 +1,21 @@
-//! What is noted of each resource as rows are judged: since which row who stands in its queue, and its last change.
+//! What is noted as rows are judged: of each resource the requests that are not released and the last change, of each core
+//! what decides its next turn. The memory grows with the plan, and not with the rows.
 ghost use Rattle.std.specs.Prelude.{◌≡◌, ◌<◌, ◌++◌, ◌∷◌};
-ghost use Rattle.msrp_plan.specs.Common.{ForSome, IsSomeAnd, [], List, IfOk, None, length, true, vec_capacity, is_request, IsRunStart, log_of, PlanModel, IsPlan};
+ghost use Rattle.msrp_plan.specs.Common.{ForSome, IsSomeAnd, [], List, IfOk, None, length, true, vec_capacity, is_request, IsRunStart, log_of, PlanModel, IsPlan, list_any};
 ghost use Rattle.msrp_plan.specs.declared.rows.Row.{Row as TraceRow};
 ghost use Rattle.msrp_audit.specs.Audits.{HasFed};
 ghost use Rattle.msrp_core.specs.CoreStates.{IsCoreState};
-ghost use Rattle.msrp_why.specs.Inside.Steps.{AreEmptyOf, IsCountStep};
-ghost use Rattle.msrp_why.specs.Noted.{AreCoresNoted, AreNoted, AreRowsNoted, last_with, queue_with};
+ghost use Rattle.msrp_why.specs.Inside.Steps.{AreEmptyOf, IsCountStep, last_with, queue_with};
+ghost use Rattle.msrp_why.specs.Noted.{AreNoted, AreRowsNoted, AreStates};
+ghost use Rattle.msrp_why.specs.Exercise.{is_by, is_locker, is_opening, is_user, nests};
 
-use crate::cores::{CoreNotes, note_turn};
 use crate::exercise::{ResourceCounts, TurnCounts};
-use crate::sections::Sections;
 use arrayvec::ArrayVec;
 use msrp_audit::Auditor;
 use msrp_core::CoreState;
 use msrp_levels::Levels;
 use msrp_plan::limits::MOST_CORES;
-use msrp_plan::{CoreId, Kind, Memory, Plan, Row};
+use msrp_plan::{CoreId, JobId, Kind, Memory, Plan, Row};
 use std::alloc::Global;
 
 /// The most requests in a queue: each core has one at most.
@@ -45,6 +45,17 @@ impl Default for Numbered {
     }
 }
 
+impl Numbered {
+    fn is_of(&self, job: JobId) -> bool
+        ensures { result ≡ is_by job self.now }
+    {
+        match self.row.job {
+            Some(own) => own == job,
+            None => false,
+        }
+    }
+}
+
 /// What is noted of a resource.
 #[derive(Debug, Drop)]
 pub struct ResourceNotes {
@@ -52,7 +63,7 @@ pub struct ResourceNotes {
     pub queue: ArrayVec<Numbered, MOST_QUEUED>,
     /// The last row that locks, unlocks or releases the resource.
     pub last: Option<Numbered>,
-    /// What the rows on it found.
+    /// What the rows on it met.
     pub counts: ResourceCounts,
 }
 
@@ -77,9 +88,32 @@ impl ResourceNotes {
         }
         self.counts.longest = self.counts.longest.max(self.queue.len());
     }
+
+    // Whether the job locked the resource, and hasn't unlocked it.
+    fn is_locked_by(&self, job: JobId) -> bool
+        ensures { result ≡ is_locker job self.now.last }
+    {
+        match self.last {
+            Some(last) => last.row.kind == Kind::Lock && last.is_of(job),
+            None => false,
+        }
+    }
+
+    // Whether the job requested the resource, and hasn't released it.
+    fn is_queued(&self, job: JobId) -> bool
+        ensures { result ≡ list_any (is_by job) self.now.queue.items }
+    {
+        self.queue.iter().any(|request| request.is_of(job))
+    }
+
+    fn is_used_by(&self, job: JobId) -> bool
+        ensures { result ≡ is_user job self.now.last self.now.queue.items }
+    {
+        self.is_locked_by(job) || self.is_queued(job)
+    }
 }
 
-/// What is noted of the resources of a plan. The memory grows with the resources, and not with the rows.
+/// What is noted of a run.
 #[derive(Debug, Drop)]
 pub struct Notes {
     /// How many rows were noted.
@@ -89,43 +123,54 @@ pub struct Notes {
     /// What the turns of the cores met.
     pub turns: TurnCounts,
     /// What decides the next turn of each core, by its number.
-    pub cores: Vec<CoreNotes>,
+    pub states: Vec<CoreState>,
     /// The notes of each resource, by its number.
     pub resources: Vec<ResourceNotes>,
-    /// Where the jobs of each task have a section open.
-    pub sections: Sections,
 }
 
-// One core more, if it is known.
-fn push_known(cores: &mut Vec<CoreNotes>, known: Option<CoreNotes>)
-    requires { length cores.old.items < vec_capacity cores.old }
-    ensures added { ForSome known (λ n. cores.new.items ≡ cores.old.items ++ n ∷ []) }
-    ensures room { vec_capacity cores.new ≡ vec_capacity cores.old }
+// Whether a row of this kind locks or requests a resource.
+fn is_opening(kind: Kind) -> bool
+    ensures { result ≡ is_opening kind }
 {
-    if let Some(core) = known {
-        cores.push_reserved(core);
-    }
+    matches!(kind, Kind::Lock | Kind::Take | Kind::Queue)
 }
 
-// What is noted of each core before the first row.
-fn cores_of(
-    alloc: Global,
-    plan: &Plan,
-    levels: &Levels<'_>,
-    auditor: &Auditor<'_>,
-) -> Result<Vec<CoreNotes>, Memory>
+// What decides the first turn of each core.
+fn states_of(alloc: Global, plan: &Plan, auditor: &Auditor<'_>) -> Result<Vec<CoreState>, Memory>
     requires plan { auditor.now.plan ≡ plan.now }
-    requires levels { levels.now ≡ plan.now }
     requires fed { HasFed auditor.now [] }
-    ensures { IfOk result (λ cores. AreCoresNoted plan.now [] cores.items) }
+    ensures { IfOk result (λ states. AreStates plan.now [] states.items) }
 {
     let count = plan.cores();
-    let mut cores = Vec::with_capacity(alloc, count as usize)?;
+    let mut states = Vec::with_capacity(alloc, count as usize)?;
     for core in 0..count {
-        let known = CoreNotes::before_turn(plan, levels, auditor, CoreId(core));
-        push_known(&mut cores, known);
+        push_known(&mut states, auditor.state(CoreId(core)));
     }
-    Ok(cores)
+    Ok(states)
+}
+
+// One more, if it is known.
+fn push_known(states: &mut Vec<CoreState>, known: Option<CoreState>)
+    requires { length states.old.items < vec_capacity states.old }
+    ensures added { ForSome known (λ s. states.new.items ≡ states.old.items ++ s ∷ []) }
+    ensures room { vec_capacity states.new ≡ vec_capacity states.old }
+{
+    if let Some(state) = known {
+        states.push_reserved(state);
+    }
+}
+
+// What decides the core's next turn after a row of it, which is legal and was fed to the auditor.
+fn note_state(states: &mut Vec<CoreState>, plan: &Plan, auditor: &Auditor<'_>, row: Row)
+    requires plan { auditor.now.plan ≡ plan.now }
+    ensures { (rows : List TraceRow) → IsRunStart plan.now (rows ++ row ∷ []) → HasFed auditor.now (rows ++ row ∷ []) → auditor.now.fault ≡ None → AreStates plan.now rows states.old.items → AreStates plan.now (rows ++ row ∷ []) states.new.items }
+{
+    let core = row.core.0 as usize;
+    if core < states.len() {
+        if let Some(state) = auditor.state(row.core) {
+            states[core] = state;
+        }
+    }
 }
 
 // What is noted of each resource before the first row.
@@ -146,14 +191,8 @@ fn resources_of(alloc: Global, plan: &Plan) -> Result<Vec<ResourceNotes>, Memory
 
 impl Notes {
     /// The notes before the first row, where the auditor judges the rows. All memory that they ever need is taken here.
-    pub fn with_room(
-        alloc: Global,
-        plan: &Plan,
-        levels: &Levels<'_>,
-        auditor: &Auditor<'_>,
-    ) -> Result<Notes, Memory>
+    pub fn with_room(alloc: Global, plan: &Plan, auditor: &Auditor<'_>) -> Result<Notes, Memory>
         requires plan { auditor.now.plan ≡ plan.now }
-        requires levels { levels.now ≡ plan.now }
         requires fed { HasFed auditor.now [] }
         ensures { IfOk result (AreNoted plan.now []) }
     {
@@ -161,19 +200,33 @@ impl Notes {
             rows: 0,
             last: None,
             turns: TurnCounts::new(),
-            cores: cores_of(alloc, plan, levels, auditor)?,
+            states: states_of(alloc, plan, auditor)?,
             resources: resources_of(alloc, plan)?,
-            sections: Sections::of(alloc, plan)?,
         })
     }
 
+    // Whether the job holds or awaits a resource.
+    fn is_inside(&self, job: JobId) -> bool
+        ensures { result ≡ list_any (λ notes. is_user job notes.last notes.queue.items) self.now.resources.items }
+    {
+        self.resources.iter().any(|notes| notes.is_used_by(job))
+    }
+
+    // Whether the row opens a critical section inside another.
+    fn nests(&self, row: Row) -> bool
+        ensures { (plan : PlanModel) (rows : List TraceRow) → AreRowsNoted plan rows self.now → result ≡ nests plan rows row }
+    {
+        match row.job {
+            Some(job) => is_opening(row.kind) && self.is_inside(job),
+            None => false,
+        }
+    }
+
     // What is noted of the resources after one row more, which is legal.
-    #[inline(always)]
     fn note_row(&mut self, plan: &Plan, row: Row)
         requires { IsPlan plan.now }
         ensures turns { self.new.turns ≡ self.old.turns }
-        ensures cores { self.new.cores ≡ self.old.cores }
-        ensures sections { self.new.sections ≡ self.old.sections }
+        ensures states { self.new.states ≡ self.old.states }
         ensures rows { (rows : List TraceRow) → IsRunStart plan.now (rows ++ row ∷ []) → AreRowsNoted plan.now rows self.old → AreRowsNoted plan.now (rows ++ row ∷ []) self.new }
     {
         let number = self.rows.saturating_add(1);
@@ -187,7 +240,6 @@ impl Notes {
     }
 
     /// The notes after one row more, which is legal and was fed to the auditor.
-    #[inline(always)]
     pub fn note(&mut self, plan: &Plan, levels: &Levels<'_>, auditor: &Auditor<'_>, row: Row)
         requires plan { auditor.now.plan ≡ plan.now }
         requires levels { levels.now ≡ plan.now }
@@ -195,17 +247,10 @@ impl Notes {
     {
         // Read so that the plan is known to be an accepted one.
         let _accepted = plan.cores();
-        let core = row.core.0 as usize;
-        if core < self.cores.len() {
-            note_turn(
-                plan,
-                levels,
-                auditor,
-                &self.sections,
-                &mut self.turns,
-                &mut self.cores[core],
-                row,
-            );
+        if let Some(state) = self.state(row.core) {
+            let nested = self.nests(row);
+            self.turns.note(plan, levels, state, nested, row);
+            note_state(&mut self.states, plan, auditor, row);
             self.note_row(plan, row);
         }
     }
@@ -214,7 +259,7 @@ impl Notes {
     pub(crate) fn state(&self, core: CoreId) -> Option<CoreState>
         ensures { (plan : PlanModel) (rows : List TraceRow) → AreNoted plan rows self.now → core.0 < plan.cores → IsSomeAnd result (IsCoreState plan core.0 (length (log_of core.0 rows)) rows) }
     {
-        let known = self.cores.get(core.0 as usize)?;
-        Some(known.state)
+        let known = self.states.get(core.0 as usize)?;
+        Some(*known)
     }
 }

@@ -1,12 +1,9 @@
-//! A refused record of a trace in plain sentences.
+//! A refused record of a trace, as text.
 ghost use Rattle.std.specs.Prelude.{◌≡◌};
-ghost use Rattle.msrp_plan.specs.Common.{Wrote};
-ghost use Rattle.csv.specs.Records.{fields_of};
-ghost use Rattle.msrp_why.specs.RefusalText.{record_line, refused_text, said_of};
+ghost use Rattle.msrp_plan.specs.Common.{OnOk, WroteSome};
 
-use crate::misfits::{Misfit, misfit_of, place_of};
-use crate::sentences::{words, write_allowed};
-use crate::telling::{write_line_part, write_number};
+use crate::misfits::{MisfitText, misfit_of};
+use crate::rows::{Line, Made};
 use csv::ByteRecord;
 use msrp_advice::{write_place, write_record};
 use msrp_plan::Plan;
@@ -14,29 +11,9 @@ use msrp_plan::bytes::Sink;
 use msrp_trace::TraceFault;
 use std::io::Write;
 
-// The number of a record and its line, where that is known, and the record.
-fn write_line<W: Write>(out: &mut Sink<W>, number: u32, line: Option<u64>, row: &ByteRecord)
-    ensures { Wrote W.contents out.old out.new (record_line number line (fields_of row.now)) }
-{
-    out.add(b"record ");
-    write_number(out, u64::from(number));
-    write_line_part(out, line);
-    out.add(b": ");
-    write_record(out, row);
-    out.add(b"\n");
-}
-
-// The field that is wrong, what it should be, and what the plan allows.
-fn write_said<W: Write>(out: &mut Sink<W>, plan: &Plan, misfit: Misfit, row: &ByteRecord)
-    ensures { Wrote W.contents out.old out.new (said_of plan.now misfit (fields_of row.now)) }
-{
-    write_place(out, row, place_of(misfit, row));
-    out.add(words(misfit));
-    write_allowed(out, plan, misfit);
-}
-
-/// Writes the code and the number of a refused record of a trace with the field that is wrong and what it should be, and the record as it stands, with the line in which it begins, where
-/// that is known: the first bytes of its first fields, each in brackets. A record without fields stands for the end of the text.
+/// Writes the code and the number of a refused record of a trace, the field that is wrong and what it must be, and the record:
+/// the first bytes of its first fields, each in brackets, with the line in which it begins, where that is known. A record
+/// without fields is the end of the text. Parts of the text are made in `text`.
 pub fn write_refused<W: Write>(
     out: &mut Sink<W>,
     plan: &Plan,
@@ -44,15 +21,19 @@ pub fn write_refused<W: Write>(
     number: u32,
     line: Option<u64>,
     row: &ByteRecord,
-)
-    ensures { Wrote W.contents out.old out.new (refused_text plan.now fault number line (fields_of row.now)) }
+    text: &mut String,
+) -> Made
+    ensures { OnOk result (WroteSome W.contents out.old out.new) }
 {
-    out.add(b"R");
-    write_number(out, u64::from(fault.code()));
-    out.add(b" at record ");
-    write_number(out, u64::from(number));
-    out.add(b": ");
-    write_said(out, plan, misfit_of(plan, fault, row), row);
+    let misfit = misfit_of(plan, fault, row);
+    out.show(
+        &format_args!("R{} at record {number}: ", fault.code()),
+        text,
+    )?;
+    write_place(out, row, misfit.field);
+    out.show(&MisfitText(plan, misfit), text)?;
+    out.show(&format_args!("\nrecord {number}{}: ", Line(line)), text)?;
+    write_record(out, row);
     out.add(b"\n");
-    write_line(out, number, line, row);
+    Ok(())
 }

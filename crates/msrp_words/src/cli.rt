@@ -1,11 +1,10 @@
 //! The command line: the words of a command, and what they ask for.
-
 ghost use Rattle.std.specs.Prelude.{◌≡◌, ◌⊎◌};
 ghost use Rattle.msrp_plan.specs.Common.{codes, false, map, ok_or, option_map, string_bytes, true, Err, IfErr, IfOk};
 ghost use Rattle.clap.specs.Words.{App, Rule, fault_of, found_of, new_app, rows_of, rule_of, subcommand_of, subcommand_rows_of, with_rule, with_subcommand};
-ghost use Rattle.msrp_words.specs.CommandLine as line;
 ghost use Rattle.msrp_words.specs.CommandLine.{Declares, IsAnswered, IsChosen, Takes};
 ghost use Rattle.msrp_words.specs.Words.{IsAsked, IsCommand, order_of, plan_path, version_of};
+ghost use Rattle.msrp_words.specs.CommandLine as line;
 
 use clap::error::ErrorKind;
 use clap::{Arg, ArgMatches, Command, Error};
@@ -68,7 +67,7 @@ fn plan_path<'a>(alloc: Global) -> Arg<'a>
     ensures rule { rule_of result ≡ line.plan }
     ensures own { result.global ≡ false }
 {
-    Arg::new(alloc, PLAN).help("the plan's path; - is standard input, as where none is given")
+    Arg::new(alloc, PLAN).help("path of the plan; - is standard input (default)")
 }
 
 // A command with two arguments.
@@ -93,8 +92,8 @@ fn judge<'a>(alloc: Global, name: &'a str, about: &'a str) -> Result<Command<'a>
         alloc,
         name,
         about,
-        path(alloc, PLAN, "the plan's path; - is standard input"),
-        path(alloc, TRACE, "the trace's path; - is standard input"),
+        path(alloc, PLAN, "path of the plan; - is standard input"),
+        path(alloc, TRACE, "path of the trace; - is standard input"),
     )
 }
 
@@ -107,7 +106,7 @@ fn order_arg<'a>(alloc: Global) -> Arg<'a>
         alloc,
         ORDER,
         "asc|desc|rot",
-        "the order of the cores in each tick: rising, falling, or from core t mod m on in tick t",
+        "order in which the cores act within a tick: ascending (default), descending, or rotating (starts at core t mod m)",
     )
 }
 
@@ -119,7 +118,7 @@ fn ahead_arg<'a>(alloc: Global) -> Arg<'a>
     flag(
         alloc,
         AHEAD,
-        "tells with each queued request how many are ahead",
+        "add a 7th column: the queue length that each waiting request finds (trace version 2)",
     )
 }
 
@@ -129,7 +128,7 @@ fn sim<'a>(alloc: Global) -> Result<Command<'a>, AllocError>
     let made = command_with(
         alloc,
         "sim",
-        "writes the trace of the plan's run on one thread",
+        "simulate the plan on one thread and write its trace",
         order_arg(alloc),
         ahead_arg(alloc),
     );
@@ -142,7 +141,7 @@ fn run<'a>(alloc: Global) -> Result<Command<'a>, AllocError>
     command_with(
         alloc,
         "run",
-        "writes the trace of the plan's run on one thread for each core",
+        "run the plan on one thread per core and write its trace",
         ahead_arg(alloc),
         plan_path(alloc),
     )
@@ -154,8 +153,8 @@ fn check<'a>(alloc: Global) -> Result<Command<'a>, AllocError>
     command_with(
         alloc,
         "check",
-        "writes the plan's preemption levels and ceilings",
-        flag(alloc, TEXT, "writes the plan's own text"),
+        "write the plan's preemption levels and ceilings",
+        flag(alloc, TEXT, "write the plan itself, in its shortest form"),
         plan_path(alloc),
     )
 }
@@ -166,20 +165,20 @@ fn report<'a>(alloc: Global) -> Result<Command<'a>, AllocError>
     judge(
         alloc,
         "report",
-        "counts what each task met in a legal trace, beside what it can meet at most",
+        "per-task deadline misses, response times, spinning and blocking, with proved upper bounds",
     )
 }
 
 fn audit<'a>(alloc: Global) -> Result<Command<'a>, AllocError>
     ensures { IfOk result (Takes line.audit) }
 {
-    let made = judge(alloc, "audit", "judges a trace: good, or its first fault");
+    let made = judge(alloc, "audit", "judge a trace: good, or its first fault");
     with_arg(
         made,
         flag(
             alloc,
             PARALLEL,
-            "judges in a second way, to check a verdict",
+            "judge in a second, independent way",
         ),
     )
 }
@@ -199,7 +198,7 @@ fn grammar<'a>(alloc: Global) -> Result<Command<'a>, AllocError>
     ensures { IfOk result (Takes line.grammar) }
 {
     let program = Command::new(alloc, "msrp").about(
-        "MSRP 0.1.0, the Multiprocessor Stack Resource Policy: runs, audits, reports; without a command as sim -",
+        "MSRP 0.1.0, the Multiprocessor Stack Resource Policy: simulates, runs, audits and reports. Without a command, it reads a plan from standard input and simulates it.",
     );
     let program = with_command(Ok(program), sim(alloc));
     let program = with_command(program, run(alloc));

@@ -1,12 +1,10 @@
 -- The rows of a trace's text, or why they can't be had.
 use Rattle.std.specs.Prelude.{◌≡◌, ◌⊎◌}
-use Rattle.msrp_plan.specs.Common.{ℕ, List, [], Option, Some, None, Err, IsOkAnd, Result, PlanModel}
+use Rattle.msrp_plan.specs.Common.{List, Option, Some, None, Err, IsOkAnd, Result}
 use Rattle.msrp_plan.specs.declared.rows.Row.{Row}
 use Rattle.msrp_plan.specs.declared.traces.Trace.{Trace}
 use Rattle.msrp_trace.specs.Reading.{Told}
 use Rattle.msrp_trace.specs.declared.faults.TraceError.{TraceError}
-use Rattle.msrp_trace.specs.declared.faults.TraceError.TheVariants.{At}
-use Rattle.msrp_why.specs.RefusalText.{refused_text}
 use Rattle.msrp_faults.specs.Outcomes.{trace_fault_of}
 use Rattle.msrp_faults.specs.declared.faults.CliFault.{CliFault}
 use Rattle.msrp_faults.specs.declared.faults.CliFault.TheVariants.{Read, Memory}
@@ -19,8 +17,3 @@ ReadsTold rows (Some error) result = result ≡ Err (trace_fault_of error)
 -- the same, but for a read that failed and for memory
 abbrev pub Reads : Told → Result Trace CliFault → Type 0
 Reads told result = (result ≡ Err Read) ⊎ (result ≡ Err Memory) ⊎ ReadsTold told.rows told.refusal result
-
--- what is told of a record that is refused, which begins in that line
-abbrev pub error_words : PlanModel → TraceError → Option ℕ → List (List ℕ) → List ℕ
-error_words plan (At fault number) line fields = refused_text plan fault number line fields
-error_words plan _ line fields = []

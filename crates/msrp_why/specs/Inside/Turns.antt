@@ -1,29 +1,20 @@
 -- A turn, by the state of its core before it.
-use Rattle.std.specs.Prelude.{◌&&◌, ◌+◌, ◌<◌, ◌≡◌}
-use Rattle.msrp_plan.specs.Common.{ℕ, Bool, false, Option, Some, None, PlanModel}
+use Rattle.std.specs.Prelude.{◌&&◌, if◌then◌else◌}
+use Rattle.msrp_plan.specs.Common.{ℕ, Bool, false, Option, Some, None, PlanModel, length, nat_lt, is_job, jobs_of}
 use Rattle.msrp_plan.specs.declared.ids.JobId.{JobId}
 use Rattle.msrp_plan.specs.declared.rows.Kind.{Kind}
-use Rattle.msrp_plan.specs.declared.rows.Kind.TheVariants.{Idle, Run, Spin}
 use Rattle.msrp_core.specs.declared.states.CoreState.{CoreState}
-use Rattle.msrp_why.specs.Exercise.{ends, has_open, is_opening}
-use Rattle.msrp_why.specs.FactLines.{units_done}
+use Rattle.msrp_why.specs.Exercise.{ends}
 
--- the row finishes its job, by how many units the state tells
+-- there is such a job
+abbrev pub is_job_of : PlanModel → JobId → Bool
+is_job_of plan j = nat_lt j.task.0 (length plan.tasks) && nat_lt j.k (length (jobs_of plan j.task.0))
+
+-- how many of its units the job has done: a job that doesn't run yet has done none
+abbrev pub units_done : CoreState → JobId → ℕ
+units_done s j = if is_job s.running j then s.done else 0
+
+-- the row finishes its job
 abbrev pub finishes_from : PlanModel → CoreState → Kind → Option JobId → Bool
 finishes_from plan s k None = false
 finishes_from plan s k (Some j) = ends plan k (units_done s j) j
-
--- the row opens a section inside another
-abbrev pub nests_from : PlanModel → CoreState → Kind → Option JobId → Bool
-nests_from plan s k None = false
-nests_from plan s k (Some j) = is_opening k && has_open plan j (units_done s j)
-
--- a row of this kind, of the job that runs, does one unit of work more, and not its last; or none
-pub data GoesOn (k : Kind) (done units : ℕ) : Type 0 where
-  Works : k ≡ Run → done + 1 < units → GoesOn k done units
-  Idles : k ≡ Idle → GoesOn k done units
-  Polls : k ≡ Spin → GoesOn k done units
-
-abbrev pub gone_on : Kind → CoreState → CoreState
-gone_on Run s = record s { done = s.done + 1 }
-gone_on _ s = s

@@ -1,13 +1,8 @@
-use Rattle.std.proofs.Common.{◌≡◌, ◌<◌}
+use Rattle.std.proofs.Common.{◌≡◌}
 use Rattle.msrp_plan.proofs.Common.{map}
-use Rattle.std.specs.Option.{IfSome}
 use Rattle.csv.specs.Records.{fields_of}
-use Rattle.msrp_advice.specs.Earlier as spec
-use Rattle.msrp_advice.specs.Nested.{last_place}
+use Rattle.msrp_advice.specs.Earlier.{is_sought, last_place}
 use Rattle.msrp_advice.proofs.earlier.last_place.Given as goal
 
 abbrev pub invariant-loop-i : goal.invariant-loop-i
-invariant-loop-i l = record {
-  place : l.last ≡ last_place (spec.is_sought l.sought (map fields_of l.before) (fields_of l.row)) l.i;
-  bound : IfSome l.last (λ k. k < l.i);
-}
+invariant-loop-i l = l.last ≡ last_place (is_sought l.sought (map fields_of l.before) (fields_of l.row)) l.i

@@ -1,8 +1,7 @@
 use Rattle.std.proofs.Common.{◌<◌}
 use Rattle.msrp_plan.proofs.Common.{arith, length, map}
 use Rattle.csv.specs.Records.{fields_of}
-use Rattle.msrp_advice.proofs.Counting.{core-more, core-none}
-use Rattle.msrp_advice.proofs.Seeking.{record-is}
+use Rattle.msrp_advice.proofs.Places.{core-more, core-none, record-is}
 use Rattle.msrp_advice.proofs.nested.core_at.Goals as goal
 
 pub loop-k-init : goal.loop-k-init

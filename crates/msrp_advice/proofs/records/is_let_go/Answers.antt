@@ -3,7 +3,7 @@ use Rattle.msrp_plan.proofs.Common.{[], true, false, ap, arith, length, map, sym
 use Rattle.csv.specs.Records.{fields_of}
 use Rattle.msrp_text.specs.Reading.{record_at}
 use Rattle.msrp_advice.specs.Records.{is_unlock_of}
-use Rattle.msrp_advice.proofs.Seeking.{any-hit, any-missed, record-is}
+use Rattle.msrp_advice.proofs.Places.{any-hit, any-missed, record-is}
 use Rattle.msrp_advice.proofs.records.is_let_go.Goals as goal
 
 pub returns-then-is_unlock_of : goal.returns-then-is_unlock_of

@@ -1,7 +1,7 @@
 use Rattle.std.proofs.Common.{◌∙◌, ◌+◌, ◌<◌}
 use Rattle.msrp_plan.proofs.Common.{rules, ap, arith, sym, range_with_len, sum_by}
 use Rattle.msrp_advice.specs.Warnings.{units_of}
-use Rattle.msrp_advice.proofs.Parts.{sum-more}
+use Rattle.msrp_advice.proofs.Sums.{sum-more}
 use Rattle.msrp_advice.proofs.warnings.core_units.Goals as goal
 
 pub loop-task-preserved : goal.loop-task-preserved

@@ -4,8 +4,8 @@ use Rattle.msrp_levels.specs.Users.{ceiling_at}
 use Rattle.msrp_picture.specs.Types.{PlanModel}
 use Rattle.msrp_picture.specs.Ceilings.{is_claimed}
 use Rattle.msrp_picture.proofs.Claims.{greatest-some, max-zero}
+use Rattle.msrp_picture.proofs.ceilings.ceiling_of.Goals.{then-claimed-res, else-claimed-res}
 use Rattle.msrp_picture.proofs.ceilings.ceiling_of.Goals as goal
-use Rattle.msrp_picture.proofs.ceilings.ceiling_of.Goals.{then-kept-res, else-kept-res}
 
 pub loop-res-preserved : goal.loop-res-preserved
 loop-res-preserved c = λ log e.
@@ -18,10 +18,10 @@ loop-res-preserved c = λ log e.
     let under = c.loop-res-test.true in
     let within : n < length plan.resources = omega (arith, size, under) in
     let told = λ (d : Bool). ap (λ (bs : List Bool). slice_index_or bs n d) e ∙ get_or-map-range_with_len (is_claimed log) 0 (length plan.resources) n n d within (omega arith) in
-    elim c.if-kept-res.branch [
-      | then-kept-res w ↦
+    elim c.if-claimed-res.branch [
+      | then-claimed-res w ↦
           let own = w.ceiling.ensures ∙ ap (λ (p : PlanModel). ceiling_at p n c.args.core.0) c.args.scene.now.of_plan in
           w.ceiling-is ∙ w.max-ceiling.ensures ∙ ap (λ k. max c.loop-res.ceiling k) own ∙ ap (λ k. max k (at n)) before
-          ∙ sym (greatest-some at (is_claimed log) n ∙ ap (λ b. max old (cond b (at n) 0)) (sym (told _) ∙ w.if-kept-res.true))
-      | else-kept-res w ↦ w.ceiling-is ∙ before ∙ sym (greatest-some at (is_claimed log) n ∙ ap (λ b. max old (cond b (at n) 0)) (sym (told _) ∙ w.if-kept-res.false) ∙ max-zero old)
+          ∙ sym (greatest-some at (is_claimed log) n ∙ ap (λ b. max old (cond b (at n) 0)) (sym (told _) ∙ w.if-claimed-res.true))
+      | else-claimed-res w ↦ w.ceiling-is ∙ before ∙ sym (greatest-some at (is_claimed log) n ∙ ap (λ b. max old (cond b (at n) 0)) (sym (told _) ∙ w.if-claimed-res.false) ∙ max-zero old)
     ]

@@ -6,4 +6,4 @@ use Rattle.msrp_picture.specs.Ceilings.{claims, is_claimed}
 use Rattle.msrp_picture.proofs.ceilings.ceiling_of.Given as goal
 
 abbrev pub invariant-loop-res : goal.invariant-loop-res
-invariant-loop-res l = (log : List Row) → l.kept ≡ claims l.fn.scene.plan.now log → l.ceiling ≡ greatest (map (λ g. ceiling_at l.fn.scene.plan.now g l.core.0) (filter (is_claimed log) (range_with_len 0 l.res)))
+invariant-loop-res l = (log : List Row) → l.claimed ≡ claims l.fn.scene.plan.now log → l.ceiling ≡ greatest (map (λ g. ceiling_at l.fn.scene.plan.now g l.core.0) (filter (is_claimed log) (range_with_len 0 l.res)))

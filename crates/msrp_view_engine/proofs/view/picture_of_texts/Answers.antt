@@ -12,7 +12,7 @@ pub returns-clause-found : goal.returns-clause-found
 returns-clause-found g c = λ plan_bytes trace_bytes plan trace.
     let records = csv_records trace_bytes in
     let made = c.picture_of-made.result in
-    let drawn = subst (λ w. OrUnread made (IsPictureIn c.args.asked c.in_ok-plan.plan (rows_of c.in_ok-plan.plan records) w made)) (sym (sym c.window_of.ensures ∙ c.in-Some.is)) (c.picture_of-made.ensures.found trace_bytes trace) in
+    let drawn = subst (λ w. OrUnread made (IsPictureIn c.in_ok-plan.plan (rows_of c.in_ok-plan.plan records) w made)) (sym (sym c.window_of.ensures ∙ c.in-Some.is)) (c.picture_of-made.ensures.found trace_bytes trace) in
     settled_from_plan (λ read answer. IsPictureOf read records c.args.asked answer) c.in_ok-plan.plan (plan_of (csv_records plan_bytes)) made c.settled.result (c.in_ok-plan.ensures.answer plan_bytes plan) c.settled.ensures.same drawn
 
 -- a plan that was read is accepted

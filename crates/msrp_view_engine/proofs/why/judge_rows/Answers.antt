@@ -2,7 +2,7 @@ use Rattle.std.proofs.Common.{◌≡◌, ◌++◌, ◌∷◌, ◌+◌, ◌<◌, 
 use Rattle.msrp_plan.proofs.Common.{rules, [], true, false, None, Some, Ok, Err, IfErr, length, ap, sym, subst, length-append, true≢false, PlanModel, is_in_turn, fault_in, verdict}
 use Rattle.msrp_audit.specs.Audits.{IsBroken, IsOutOfTurn, answer_of}
 use Rattle.msrp_audit.proofs.Judging.{fault_told, good_told}
-use Rattle.msrp_trace.specs.Readers.{HasReadBehind, StandsBehind}
+use Rattle.msrp_trace.specs.Readers.{HasReadBehind}
 use Rattle.msrp_trace.proofs.ReadThrough.{none-read, read-row}
 use Rattle.msrp_why.proofs.Causing.{good_start}
 use Rattle.msrp_engine.proofs.Judging.{fewer-left}
@@ -10,7 +10,7 @@ use Rattle.msrp_view_engine.proofs.Explaining.{cause-found, end-found, line-foun
 use Rattle.msrp_view_engine.proofs.why.judge_rows.Goals as goal
 
 pub loop-notes-init : goal.loop-notes-init
-loop-notes-init g c = ([], c.requires.plan, c.requires.fed, c.requires.fed.fault, λ told known. none-read told _ known, c.requires.noted, λ records stands. stands, λ bytes read. read)
+loop-notes-init g c = ([], c.requires.plan, c.requires.fed, c.requires.fed.fault, λ told known. none-read told _ known, c.requires.noted, λ bytes read. read)
 
 -- ---- a row that isn't in its turn
 pub returns-then-not-is_in_turn-clause-found : goal.returns-then-not-is_in_turn-clause-found
@@ -36,7 +36,7 @@ returns-then-not-is_in_turn-clause-line g c = λ bytes read.
     let broken : IsBroken c.loop-notes.auditor.plan i.0 row c.fault_out_of_turn-fault.result None c.loop-notes.auditor =
     record { fault = c.fault_out_of_turn-fault.ensures i.0 row i.2 i.3 out; turn = λ left turn. absurd (true≢false (sym turn ∙ out left)); out = λ _. (i.2, i.3) } in
     let told_so = subst (λ (p : PlanModel). IsBroken p i.0 row c.fault_out_of_turn-fault.result None c.loop-notes.auditor) i.1 broken in
-    let behind = subst (λ r. HasReadBehind g.T.Read.remaining bytes r c.next_foreseen.new.self) (c.in_ok-row.was ∙ ap (λ x. Ok x) c.in-Some.is) (c.next_foreseen.ensures.lines bytes (i.7 bytes read)) in
+    let behind = subst (λ r. HasReadBehind g.T.Read.remaining bytes r c.next_foreseen.new.self) (c.in_ok-row.was ∙ ap (λ x. Ok x) c.in-Some.is) (c.next_foreseen.ensures.lines bytes (i.6 bytes read)) in
     line-found c.args.plan.now i.0 row c.fault_out_of_turn-fault.result c.cause_of.result bytes _ told_so.fault (c.cause_of.ensures.cause i.0 good told_so i.5) c.cause_of.ensures.line (c.line_of_row-line.ensures bytes behind)
 
 -- ---- the end, and an error of the reader
@@ -47,18 +47,11 @@ returns-in_err-row-clause-found g c = λ told known.
     let gives : c.from_residual.result ≡ Err c.in_err-row.field-0.0 = search rules in
     refusal-judged c.args.plan.now told i.0 _ _ c.next_foreseen.result c.in_err-row.field-0.0 _ (i.4 told known) c.next_foreseen.ensures.next c.in_err-row.was good gives
 
-pub returns-in_err-row-clause-stands : goal.returns-in_err-row-clause-stands
-returns-in_err-row-clause-stands g c = λ records stands.
-    let i = c.loop-notes.invariant in
-    let gives : c.from_residual.result ≡ Err c.in_err-row.field-0.0 = search rules in
-    let behind = subst (λ r. StandsBehind g.T.Read.remaining records r c.next_foreseen.new.self) c.in_err-row.was (c.next_foreseen.ensures.stands records (i.6 records stands)) in
-    subst (λ r. IfErr r (λ error. StandsBehind g.T.Read.remaining records (Err error) c.next_foreseen.new.self)) (sym gives) behind
-
 pub returns-in_err-row-clause-read : goal.returns-in_err-row-clause-read
 returns-in_err-row-clause-read g c = λ bytes read.
     let i = c.loop-notes.invariant in
     let gives : c.from_residual.result ≡ Err c.in_err-row.field-0.0 = search rules in
-    let behind = subst (λ r. HasReadBehind g.T.Read.remaining bytes r c.next_foreseen.new.self) c.in_err-row.was (c.next_foreseen.ensures.lines bytes (i.7 bytes read)) in
+    let behind = subst (λ r. HasReadBehind g.T.Read.remaining bytes r c.next_foreseen.new.self) c.in_err-row.was (c.next_foreseen.ensures.lines bytes (i.6 bytes read)) in
     subst (λ r. IfErr r (λ error. HasReadBehind g.T.Read.remaining bytes (Err error) c.next_foreseen.new.self)) (sym gives) behind
 
 pub returns-clause-found : goal.returns-clause-found
@@ -108,7 +101,7 @@ returns-in-Err-clause-line g c = λ bytes read.
       out = λ o. absurd (true≢false (sym (subst (λ p. is_in_turn p i.0 row ≡ true) (sym c.turn-due.ensures.plan) turn) ∙ o (subst (λ (p : PlanModel). length i.0 < p.cores * p.ticks) (sym c.turn-due.ensures.plan) left)));
     } in
     let broken = subst (λ (p : PlanModel). IsBroken p i.0 row c.in-Err.fault (Some c.turn-due.result) c.judge.new.self) (c.turn-due.ensures.plan ∙ i.1) at in
-    let behind = subst (λ r. HasReadBehind g.T.Read.remaining bytes r c.next_foreseen.new.self) (c.in_ok-row.was ∙ ap (λ x. Ok x) c.in-Some.is) (c.next_foreseen.ensures.lines bytes (i.7 bytes read)) in
+    let behind = subst (λ r. HasReadBehind g.T.Read.remaining bytes r c.next_foreseen.new.self) (c.in_ok-row.was ∙ ap (λ x. Ok x) c.in-Some.is) (c.next_foreseen.ensures.lines bytes (i.6 bytes read)) in
     line-found c.args.plan.now i.0 row c.in-Err.fault c.cause_of-in-Err.result bytes _ broken.fault (c.cause_of-in-Err.ensures.cause i.0 good broken i.5) c.cause_of-in-Err.ensures.line (c.line_of_row-line-in-Err.ensures bytes behind)
 
 -- ---- a legal row
@@ -143,6 +136,5 @@ loop-notes-preserved g c =
       none,
       λ told known. read-row told i.0 _ _ c.next_foreseen.result row (i.4 told known) c.next_foreseen.ensures.next is,
       c.note.ensures i.0 start fed none i.5,
-      λ records stands. subst (λ r. StandsBehind g.T.Read.remaining records r c.next_foreseen.new.self) is (c.next_foreseen.ensures.stands records (i.6 records stands)),
-      λ bytes read. subst (λ r. HasReadBehind g.T.Read.remaining bytes r c.next_foreseen.new.self) is (c.next_foreseen.ensures.lines bytes (i.7 bytes read)),
+      λ bytes read. subst (λ r. HasReadBehind g.T.Read.remaining bytes r c.next_foreseen.new.self) is (c.next_foreseen.ensures.lines bytes (i.6 bytes read)),
     )

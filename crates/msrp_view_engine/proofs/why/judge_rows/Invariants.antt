@@ -3,7 +3,7 @@ use Rattle.msrp_plan.proofs.Common.{ℕ, List, Some, None}
 use Rattle.msrp_plan.specs.declared.rows.Row.{Row}
 use Rattle.msrp_audit.specs.Audits.{HasFed}
 use Rattle.msrp_trace.specs.Reading.{Told}
-use Rattle.msrp_trace.specs.Readers.{HasReadIn, StandsIn, told_left}
+use Rattle.msrp_trace.specs.Readers.{HasReadIn, told_left}
 use Rattle.msrp_trace.proofs.ReadThrough.{IsReadTo}
 use Rattle.msrp_why.specs.Noted.{AreNoted}
 use Rattle.msrp_view_engine.proofs.why.judge_rows.Given as goal
@@ -16,7 +16,6 @@ invariant-loop-notes g l =
     × (l.auditor.fault ≡ None)
     × ((told : Told) → told_left g.T.Read.remaining l.fn.rows ≡ Some told → IsReadTo told rows (told_left g.T.Read.remaining l.rows))
     × AreNoted l.plan rows l.notes
-    × ((records : List (List (List ℕ))) → StandsIn g.T.Read.remaining records l.fn.rows → StandsIn g.T.Read.remaining records l.rows)
     × ((bytes : List ℕ) → HasReadIn g.T.Read.remaining bytes l.fn.rows → HasReadIn g.T.Read.remaining bytes l.rows)
 
 abbrev pub decreases-loop-notes : goal.decreases-loop-notes

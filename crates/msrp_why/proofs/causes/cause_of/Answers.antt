@@ -1,6 +1,21 @@
-use Rattle.msrp_why.proofs.Causing.{cause_is}
+use Rattle.msrp_why.proofs.Causing.{good_start}
+use Rattle.msrp_plan.proofs.Common.{IsSomeAnd, refl, subst, turns_when_due}
+use Rattle.msrp_core.specs.CoreStates.{IsCoreState}
+use Rattle.msrp_audit.proofs.Judging.{due_after}
 use Rattle.msrp_why.proofs.causes.cause_of.Goals as goal
 
 pub returns-clause-cause : goal.returns-clause-cause
 returns-clause-cause c = λ rows good broken noted.
-    cause_is c.args.plan.now c.args.auditor.now rows _ c.cores_with_turn-turns.ensures.accepted good broken noted (c.cores_with_turn-turns.ensures.turns rows) (c.state-state.ensures c.args.plan.now rows noted)
+    let plan = c.args.plan.now in
+    let r = c.args.row in
+    record {
+      good = good;
+      fault = broken.fault;
+      row = refl;
+      expected = λ t. broken.turn t.0 t.1;
+      state = λ t.
+          let core = (due_after plan rows r t.0 t.1).turn in
+          subst (λ n. IsSomeAnd c.state-state.result (IsCoreState plan r.core.0 n rows)) (turns_when_due plan rows r.core.0 c.cores_with_turn-turns.ensures.accepted (good_start plan rows good).each core) (c.state-state.ensures plan rows noted core.core);
+      turns = λ t. let out = broken.out (λ few. t.1) in c.cores_with_turn-turns.ensures.turns rows out.0 out.1 t.0;
+      notes = noted;
+    }

@@ -1,7 +1,10 @@
-use Rattle.std.proofs.Common.{◌≤◌}
-use Rattle.std.specs.Vec.{vec_capacity}
-use Rattle.msrp_why.proofs.Noting.{AreEmpty}
+use Rattle.std.proofs.Common.{◌≤◌, ◌≡◌}
+use Rattle.msrp_plan.proofs.Common.{ℕ, [], Some, length, slice_get, vec_capacity}
+use Rattle.msrp_why.specs.Noted.{IsNoted}
+use Rattle.msrp_why.specs.declared.notes.ResourceNotes.{ResourceNotes}
 use Rattle.msrp_why.proofs.notes.resources_of.Given as goal
 
 abbrev pub invariant-loop-res : goal.invariant-loop-res
-invariant-loop-res l = AreEmpty l._res l.resources.items × (l.count ≤ vec_capacity l.resources)
+invariant-loop-res l =
+    ((length l.resources.items ≡ l._res) × ((g : ℕ) (n : ResourceNotes) → slice_get l.resources.items g ≡ Some n → IsNoted [] g n))
+    × (l.count ≤ vec_capacity l.resources)

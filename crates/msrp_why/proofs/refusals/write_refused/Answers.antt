@@ -1,11 +1,8 @@
-use Rattle.std.proofs.Common.{◌∙◌}
-use Rattle.msrp_plan.proofs.Common.{wrote-more}
+use Rattle.msrp_plan.proofs.Common.{some-more, wrote-some}
 use Rattle.msrp_why.proofs.refusals.write_refused.Goals as goal
 
 pub returns : goal.returns
 returns g c =
-    let code = rw (c.from.ensures ∙ c.code.ensures) at c.write_number.ensures in
-    let said = rw c.misfit_of.ensures at c.write_said.ensures in
-    let line = wrote-more _ _ _ _ _ _ said (wrote-more _ _ _ _ _ _ c.add-4.ensures c.write_line.ensures) in
-    let number = wrote-more _ _ _ _ _ _ c.add-2.ensures (wrote-more _ _ _ _ _ _ (rw c.from-2.ensures at c.write_number-2.ensures) (wrote-more _ _ _ _ _ _ c.add-3.ensures line)) in
-    wrote-more _ _ _ _ _ _ c.add.ensures (wrote-more _ _ _ _ _ _ code number)
+    let record_shown = some-more _ _ _ _ c.in_ok-show-3.ensures.some (some-more _ _ _ _ (wrote-some _ _ _ _ c.write_record.ensures) (wrote-some _ _ _ _ c.add.ensures)) in
+    let said = some-more _ _ _ _ (wrote-some _ _ _ _ c.write_place.ensures) (some-more _ _ _ _ c.in_ok-show-2.ensures.some record_shown) in
+    some-more _ _ _ _ c.in_ok-show.ensures.some said

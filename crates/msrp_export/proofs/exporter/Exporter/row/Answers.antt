@@ -1,52 +1,25 @@
-use Rattle.std.proofs.Common.{◌≡◌, ◌≢◌, ◌+◌, ◌++◌, ◌∷◌, ◌∙◌}
-use Rattle.msrp_plan.proofs.Common.{[], refl, sym, subst, arith, Wrote, wrote-nothing}
-use Rattle.msrp_export.specs.declared.recent.Recent.{Recent}
-use Rattle.msrp_export.proofs.Exporting.{are_over, ended, ends_text, goes_text, tick_push, told_rows, went}
-use Rattle.msrp_export.proofs.Ticks.{tick_fits}
+use Rattle.std.proofs.Common.{◌≡◌, ◌+◌, ◌++◌, ◌∷◌, ◌∙◌}
+use Rattle.msrp_plan.proofs.Common.{[], sym, subst, arith, ap}
+use Rattle.msrp_export.proofs.Exporting.{ended, went, all_told}
+use Rattle.msrp_export.specs.Exports.{HasTaken}
+use Rattle.msrp_export.specs.declared.exporter.Exporter.{Exporter}
+use Rattle.msrp_export.specs.declared.signals.Signals.{Signals}
 use Rattle.msrp_export.proofs.exporter.Exporter.row.Goals as goal
 
-pub returns-then-self-cores-clause-text : goal.returns-then-self-cores-clause-text
-returns-then-self-cores-clause-text g c = λ rows h few.
+pub returns-then-self-cores-clause-taken : goal.returns-then-self-cores-clause-taken
+returns-then-self-cores-clause-taken g c = λ rows h few.
     let e = c.args.self.now in
-    let over = are_over e rows h in
-    let latest = c.take.ensures rows (told_rows e.plan.now rows e.tick e.turns e.recent over h.told) few in
-    let recent : Recent = record { earlier = e.recent.earlier; before = e.recent.before; latest = c.take.new.self } in
-    let told = tick_push e.plan.now rows c.args.row e.tick e.turns e.recent recent over h.told refl refl latest in
     let size = h.size in
     let next : c.next-self.result ≡ e.turns + 1 = c.next-self.ensures (omega (arith, size, few)) in
-    let last : e.turns + 1 ≡ e.plan.now.cores = sym next ∙ (c.if-self-cores.true ∙ c.cores.ensures.value) in
-    subst (Wrote g.W.Write.contents c.args.out.now c.end_tick.new.out) (ends_text e.format e.plan.now rows c.args.row e.tick e.turns over last) (c.end_tick.ensures.text (rows ++ c.args.row ∷ []) told)
+    let cores : c.cores.result ≡ e.signals.plan.now.cores = c.cores.ensures.value ∙ ap (λ (s : Signals). s.plan.now.cores) c.take.ensures.kept in
+    went e c.take.new.self c.next-self.result rows c.args.row h c.take.ensures.kept (c.take.ensures.latest rows (all_told e rows h) few) next (λ same. c.if-self-cores.true (same ∙ sym cores))
 
-pub returns-then-self-cores-clause-exported : goal.returns-then-self-cores-clause-exported
-returns-then-self-cores-clause-exported g c = λ rows h few.
-    let e = c.args.self.now in
-    let over = are_over e rows h in
-    let latest = c.take.ensures rows (told_rows e.plan.now rows e.tick e.turns e.recent over h.told) few in
-    let recent : Recent = record { earlier = e.recent.earlier; before = e.recent.before; latest = c.take.new.self } in
-    let told = tick_push e.plan.now rows c.args.row e.tick e.turns e.recent recent over h.told refl refl latest in
-    let size = h.size in
-    let low = tick_fits e.plan.now rows e.tick e.turns over in
-    let next : c.next-self.result ≡ e.turns + 1 = c.next-self.ensures (omega (arith, size, few)) in
-    let last : e.turns + 1 ≡ e.plan.now.cores = sym next ∙ (c.if-self-cores.true ∙ c.cores.ensures.value) in
-    let end = c.end_tick.ensures in
-    ended e c.end_tick.new.self rows c.args.row recent h last told latest end.plan end.earlier end.before end.latest (end.tick (omega (arith, low, few))) end.turns
-
-pub returns-else-self-cores-clause-text : goal.returns-else-self-cores-clause-text
-returns-else-self-cores-clause-text g c = λ rows h few.
+pub returns-clause-taken : goal.returns-clause-taken
+returns-clause-taken g c = λ rows h few.
     let e = c.args.self.now in
     let size = h.size in
     let next : c.next-self.result ≡ e.turns + 1 = c.next-self.ensures (omega (arith, size, few)) in
-    let other : e.turns + 1 ≢ e.plan.now.cores = (λ same. c.if-self-cores.false (next ∙ (same ∙ sym c.cores.ensures.value))) in
-    subst (Wrote g.W.Write.contents c.args.out.now c.args.out.now) (goes_text e.format e.plan.now rows c.args.row e.tick e.turns (are_over e rows h) other) (wrote-nothing g.W.Write.contents c.args.out.now)
-
-pub returns-else-self-cores-clause-exported : goal.returns-else-self-cores-clause-exported
-returns-else-self-cores-clause-exported g c = λ rows h few.
-    let e = c.args.self.now in
-    let over = are_over e rows h in
-    let latest = c.take.ensures rows (told_rows e.plan.now rows e.tick e.turns e.recent over h.told) few in
-    let recent : Recent = record { earlier = e.recent.earlier; before = e.recent.before; latest = c.take.new.self } in
-    let told = tick_push e.plan.now rows c.args.row e.tick e.turns e.recent recent over h.told refl refl latest in
-    let size = h.size in
-    let next : c.next-self.result ≡ e.turns + 1 = c.next-self.ensures (omega (arith, size, few)) in
-    let other : e.turns + 1 ≢ e.plan.now.cores = (λ same. c.if-self-cores.false (next ∙ (same ∙ sym c.cores.ensures.value))) in
-    went e _ rows c.args.row h other refl told refl next
+    let cores : c.cores.result ≡ e.signals.plan.now.cores = c.cores.ensures.value ∙ ap (λ (s : Signals). s.plan.now.cores) c.take.ensures.kept in
+    let last : e.turns + 1 ≡ e.signals.plan.now.cores = sym next ∙ (c.if-self-cores.false ∙ cores) in
+    subst (λ (x : Exporter). HasTaken x (rows ++ c.args.row ∷ [])) (sym c.put.ensures.kept)
+    (ended e c.take.new.self c.end_tick.new.self rows c.args.row c.put.new.self h few c.take.ensures.kept (c.take.ensures.latest rows (all_told e rows h) few) last c.end_tick.ensures.next)

@@ -8,4 +8,4 @@ returns c = λ plan rows noted low.
     let i = c.args.core.0 in
     let found = c.in_ok-known.ensures.lookup in
     let has : slice_get c.deref.result.now i ≡ Some one = slice_get_read c.deref.result.now (length c.deref.result.now) i one refl found.3.0 found.1 in
-    (noted.cores.each i one (subst (λ xs. slice_get xs i ≡ Some one) c.deref.ensures.value has)).state
+    noted.states.each i one (subst (λ xs. slice_get xs i ≡ Some one) c.deref.ensures.value has)

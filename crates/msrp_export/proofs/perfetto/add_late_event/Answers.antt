@@ -1,5 +1,0 @@
-use Rattle.msrp_plan.proofs.Common.{wrote-more}
-use Rattle.msrp_export.proofs.perfetto.add_late_event.Goals as goal
-
-pub returns : goal.returns
-returns g c = wrote-more _ _ _ _ _ _ (wrote-more _ _ _ _ _ _ c.add_event.ensures c.add.ensures) c.add_job_args.ensures

@@ -1,0 +1,7 @@
+use Rattle.std.proofs.Common.{◌≡◌, ◌++◌, filter}
+use Rattle.msrp_plan.proofs.Common.{ℕ, flat_map, range_with_len, is_global}
+use Rattle.msrp_picture.specs.Queues.{queue_blocks}
+use Rattle.msrp_picture.proofs.drawing.push_queues.Given as goal
+
+abbrev pub invariant-loop-res : goal.invariant-loop-res
+invariant-loop-res l = l.blocks.items ≡ l.fn.blocks.items ++ flat_map (λ (g : ℕ). queue_blocks l.fn.scene.plan.now l.fn.scene.rows.now (record { 0 = g })) (filter (is_global l.fn.scene.plan.now) (range_with_len 0 l.res))

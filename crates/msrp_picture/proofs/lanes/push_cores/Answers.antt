@@ -1,7 +1,0 @@
-use Rattle.msrp_plan.proofs.Common.{ℕ}
-use Rattle.msrp_picture.specs.Lanes.{core_shapes}
-use Rattle.msrp_picture.proofs.Growing.{grows-each}
-use Rattle.msrp_picture.proofs.lanes.push_cores.Goals as goal
-
-pub loop-core-preserved : goal.loop-core-preserved
-loop-core-preserved c = grows-each (λ (n : ℕ). core_shapes c.args.scene.now.plan.now c.args.scene.now.window c.args.scene.now.rows.now c.args.scene.now.later.now (record { 0 = n })) c.loop-core.core c.args.shapes.now.items _ _ c.loop-core.invariant c.in_ok-push_core.ensures

@@ -1,0 +1,174 @@
+//! What there is to see in a picture, and the picture.
+ghost use Rattle.std.specs.Prelude.{◌≡◌, ◌<◌, ◌++◌, filter};
+ghost use Rattle.msrp_plan.specs.Common.{IfOk, OnOk, length, map, flat_map, range_with_len};
+ghost use Rattle.msrp_picture.specs.Lives.{late_block, life_block};
+ghost use Rattle.msrp_picture.specs.Shapes.{AreShapes, AreShapesOf, blocks, core_blocks, cores_blocks, events, lives_blocks, queues_blocks, task_blocks, tasks_blocks, violation};
+ghost use Rattle.msrp_picture.specs.Windows.{IsWindow, is_seen};
+ghost use Rattle.msrp_picture.specs.declared.lives.Life.{Life as JobLife};
+
+use crate::blocks::push_rows;
+use crate::ceilings::push_ceilings;
+use crate::elements::svg;
+use crate::gathering::gathered;
+use crate::lives::{
+    Life, completion_event, deadline_event, late_block, life_block, lives_of, release_event,
+};
+use crate::plain::text;
+use crate::queues::push_queue;
+use crate::scene::Scene;
+use crate::sections::push_sections;
+use crate::shapes::{Block, Event, Lane, Shapes, Violation};
+use crate::windows::{Asked, Style, Window, shown_window};
+use crate::{Added, Verdict};
+use msrp_levels::Levels;
+use msrp_plan::{CoreId, Memory, Plan, ResId, Row, TaskId};
+use std::alloc::Global;
+
+// The lives of all jobs, and where they are late.
+fn lives_blocks(scene: &Scene<'_>, lives: &[Life]) -> Result<Vec<Block>, Memory>
+    ensures { IfOk result (λ all. all.items ≡ lives_blocks lives.now) }
+{
+    let late = lives.iter().map(late_block);
+    gathered(lives.iter().map(life_block).chain(late), scene.alloc)
+}
+
+// Who runs on a core, and its ceilings as long as the rows are legal.
+fn push_core(blocks: &mut Vec<Block>, scene: &Scene<'_>, core: CoreId) -> Added
+    requires { core.0 < scene.now.plan.now.cores }
+    ensures { OnOk result (blocks.new.items ≡ blocks.old.items ++ core_blocks scene.now.plan.now scene.now.rows.now scene.now.later.now core) }
+{
+    push_rows(blocks, scene, Lane::Core(core))?;
+    push_ceilings(blocks, scene, core)
+}
+
+fn push_cores(blocks: &mut Vec<Block>, scene: &Scene<'_>) -> Added
+    ensures { OnOk result (blocks.new.items ≡ blocks.old.items ++ cores_blocks scene.now.plan.now scene.now.rows.now scene.now.later.now) }
+{
+    for core in 0..scene.plan.cores() {
+        push_core(blocks, scene, CoreId(core))?;
+    }
+    Ok(())
+}
+
+// What the jobs of a task do, and their critical sections as long as the rows are legal.
+fn push_task(blocks: &mut Vec<Block>, scene: &Scene<'_>, task: TaskId) -> Added
+    ensures { OnOk result (blocks.new.items ≡ blocks.old.items ++ task_blocks scene.now.plan.now scene.now.rows.now scene.now.later.now task) }
+{
+    let own = scene.rows_of(task)?;
+    push_rows(blocks, scene, Lane::Task(task))?;
+    push_sections(blocks, task, scene.ticks_begun(), &own)
+}
+
+fn push_tasks(blocks: &mut Vec<Block>, scene: &Scene<'_>) -> Added
+    ensures { OnOk result (blocks.new.items ≡ blocks.old.items ++ tasks_blocks scene.now.plan.now scene.now.rows.now scene.now.later.now) }
+{
+    for task in 0..scene.plan.tasks() {
+        push_task(blocks, scene, TaskId(task))?;
+    }
+    Ok(())
+}
+
+fn push_queues(blocks: &mut Vec<Block>, scene: &Scene<'_>) -> Added
+    ensures { OnOk result (blocks.new.items ≡ blocks.old.items ++ queues_blocks scene.now.plan.now scene.now.rows.now) }
+{
+    for res in 0..scene.plan.resources() {
+        if scene.levels.is_global(ResId(res)) {
+            push_queue(blocks, scene, ResId(res))?;
+        }
+    }
+    Ok(())
+}
+
+// All blocks of the trace.
+fn blocks_of(scene: &Scene<'_>, lives: &[Life]) -> Result<Vec<Block>, Memory>
+    ensures { IfOk result (λ all. all.items ≡ blocks scene.now.plan.now scene.now.rows.now scene.now.later.now lives.now) }
+{
+    let mut blocks = lives_blocks(scene, lives)?;
+    push_cores(&mut blocks, scene)?;
+    push_tasks(&mut blocks, scene)?;
+    push_queues(&mut blocks, scene)?;
+    Ok(blocks)
+}
+
+// The blocks of which some ticks are drawn.
+fn seen(scene: &Scene<'_>, blocks: &[Block]) -> Result<Vec<Block>, Memory>
+    ensures { IfOk result (λ all. all.items ≡ filter (is_seen scene.now.window) blocks.now) }
+{
+    let window = scene.window;
+    let drawn = blocks.iter().copied();
+    gathered(drawn.filter(|block| window.has_block(block)), scene.alloc)
+}
+
+// The events that are drawn.
+fn events_of(scene: &Scene<'_>, lives: &[Life]) -> Result<Vec<Event>, Memory>
+    ensures { IfOk result (λ all. all.items ≡ events scene.now.window lives.now) }
+{
+    let window = scene.window;
+    let due = lives
+        .iter()
+        .map(release_event)
+        .chain(lives.iter().map(deadline_event));
+    let all = due.chain(lives.iter().filter_map(completion_event));
+    gathered(all.filter(|event| window.has_event(event)), scene.alloc)
+}
+
+fn violation_of(scene: &Scene<'_>) -> Option<Violation>
+    ensures { result ≡ violation scene.now.later.now scene.now.found }
+{
+    match (scene.found, scene.later) {
+        (Err(fault), [row, ..]) => Some(Violation {
+            row: *row,
+            rule: fault.rule,
+        }),
+        _ => None,
+    }
+}
+
+fn shapes_in(scene: &Scene<'_>) -> Result<Shapes, Memory>
+    ensures { IfOk result (AreShapes scene.now.plan.now scene.now.rows.now scene.now.later.now scene.now.found scene.now.window) }
+{
+    let lives = lives_of(scene)?;
+    let blocks = blocks_of(scene, &lives)?;
+    Ok(Shapes {
+        blocks: seen(scene, &blocks)?,
+        events: events_of(scene, &lives)?,
+        violation: violation_of(scene),
+    })
+}
+
+/// What there is to see in the ticks of a window, where that is the verdict on the rows of a trace.
+pub fn shapes_of(
+    alloc: Global,
+    plan: &Plan,
+    rows: &[Row],
+    found: Verdict,
+    window: Window,
+) -> Result<Shapes, Memory>
+    ensures { IfOk result (AreShapesOf plan.now rows.now found window) }
+{
+    let levels = Levels::of(alloc, plan)?;
+    shapes_in(&Scene::of(&levels, plan, rows, found, window, alloc))
+}
+
+/// A picture of a trace with that verdict on its rows. Where no ticks are asked for and a rule is violated, the picture
+/// shows the ticks around the fault, and else those of the window.
+pub fn draw(
+    alloc: Global,
+    plan: &Plan,
+    rows: &[Row],
+    found: Verdict,
+    asked: Asked,
+    window: Window,
+) -> Result<Vec<u8>, Memory>
+    requires { IsWindow window }
+{
+    let window = shown_window(plan, asked, window, found);
+    let levels = Levels::of(alloc, plan)?;
+    let scene = Scene::of(&levels, plan, rows, found, window, alloc);
+    let shapes = shapes_in(&scene)?;
+    let picture = match asked.style {
+        Style::Text => text(&scene, &shapes)?,
+        Style::Svg => svg(&scene, &shapes)?,
+    };
+    Ok(picture.into_bytes())
+}
