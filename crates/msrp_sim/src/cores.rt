@@ -11,7 +11,7 @@ ghost use Rattle.msrp_sim.specs.Serving.{AreDrawn, Notes, waiting};
 ghost use Rattle.msrp_sim.specs.TurnPorts.{unless_granted};
 
 use crate::tickets::Queues;
-use crate::turn_port::{repeat_by, repeats_by, turn_by};
+use crate::turn_port::{repeat_by, turn_by};
 use msrp_core::{CoreState, Machine, PortCall, Reply};
 use msrp_levels::Levels;
 use msrp_plan::{Call, CoreId, Kind, Memory, Plan, ResId, Row};

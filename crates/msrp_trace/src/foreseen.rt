@@ -9,11 +9,9 @@ ghost use Rattle.msrp_trace.specs.Lines.{IsLine};
 ghost use Rattle.msrp_trace.specs.Texts.{text_of_core, texts_of};
 ghost use Rattle.msrp_trace.specs.declared.line.RowLine.{RowLine as Kept};
 
-use crate::line::{CoreText, LINE, RowLine};
+use crate::line::RowLine;
 use crate::res::ResTexts;
-use crate::text::Text;
-use crate::texts::{RowTexts, first_lines};
-use crate::tick::{NUMBER, Tick};
+use crate::tick::Tick;
 use crate::whole::is_told_whole;
 use crate::writing::show_line;
 use msrp_plan::limits::MOST_CORES;
