@@ -8,6 +8,9 @@ use Rattle.msrp_board.specs.Seats.{BoardModel, SeatModel, IsCoreSeat, empty_book
 use Rattle.msrp_core.specs.Machine.{MachineModel, StandsAfter}
 use Rattle.msrp_merge.specs.Merging.{size_of}
 use Rattle.msrp_merge.specs.Turns.{LogModel, rows_of, Fits}
+use Rattle.msrp_plan.specs.declared.rows.Row.{Row}
+use Rattle.msrp_board.specs.Steps.{with_admission}
+use Rattle.msrp_run.specs.Turns.{CoreModel, HasTurned, core_with}
 
 -- a core before its first turn: a new machine, an empty log for the plan's ticks, and the core's seat on a board of the
 -- plan, which waits for tick 0
@@ -36,6 +39,13 @@ pub record IsAtWork (board : BoardModel) (plan : PlanModel) (c : ℕ) (m : Machi
   pub run : CoreRun plan c (rows_of log.turns)
   pub fits : Fits log.turns book.entries
   pub aheads : carries_ahead (rows_of log.turns) ≡ true
+
+-- a core within its turn: it was at work, was let into its tick, and had the turn that made this row
+pub record IsInTurn (board : BoardModel) (plan : PlanModel) (c : ℕ) (m : MachineModel) (log : LogModel) (seat : SeatModel) : Type 0 where
+  pub before : CoreModel
+  pub at_work : IsAtWork board plan c before.machine before.log before.seat
+  pub row : Row
+  pub turned : HasTurned board (core_with before.machine before.log (with_admission before.seat)) row (core_with m log seat)
 
 -- the whole log of a core: a run of the core to the plan's last tick, whose queue rows carry their aheads, and which fits
 -- the book of the core, which has arrived from its last tick

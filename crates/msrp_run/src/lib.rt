@@ -12,6 +12,7 @@ mod work;
 mod workers;
 
 pub use hire::{Hire, HireAll, RunError};
-pub use threads::{run_logged_if, run_threads, run_threads_if};
+pub use threads::{parts_of, run_logged_if, run_threads, run_threads_if};
 pub use turns::{Plain, Stage, turn_on};
-pub use work::{Progress, round, worker};
+pub use work::{Begun, Progress, begin, finish, round, worker};
+pub use workers::CoreParts;

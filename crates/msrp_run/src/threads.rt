@@ -28,8 +28,8 @@ impl Promise<(CoreLog, BoardSeat)> for WorkPromise {
     ghost kept_by = { λ p r. HasWorked p.seat.value.board p.plan.value p.core.0 r.0 r.1 };
 }
 
-// A machine and an empty log for each core, cores rising.
-fn parts_of<'a>(
+/// A machine and an empty log for each core, cores rising. The levels are those of the plan.
+pub fn parts_of<'a>(
     alloc: Global,
     plan: &'a Plan,
     levels: &'a Levels<'a>,

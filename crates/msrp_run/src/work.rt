@@ -1,13 +1,18 @@
 //! What the thread of a core does.
-ghost use Rattle.std.specs.Prelude.{◌≡◌, ◌+◌};
+ghost use Rattle.std.specs.Prelude.{◌≡◌, ◌+◌, ◌≢◌, ◌++◌, ◌∷◌};
 ghost use Rattle.msrp_run.specs.declared.work.Progress.TheVariants.{Waits, Turned, Ended};
-ghost use Rattle.msrp_run.specs.Work.{HasWorked, IsAtWork, IsNew};
+ghost use Rattle.msrp_run.specs.Work.{HasWorked, IsAtWork, IsNew, IsInTurn};
+ghost use Rattle.msrp_plan.specs.Common.{[], Option};
+ghost use Rattle.msrp_plan.specs.declared.rows.Row.{Row as TraceRow};
+ghost use Rattle.msrp_merge.specs.declared.logs.Place.{Place};
+ghost use Rattle.msrp_run.specs.declared.work.Begun.{Begun};
 
 use crate::turns::Stage;
 use crossbeam_utils::Backoff;
 use msrp_board::{Board, BoardSeat, Look, SeatPhase};
 use msrp_core::Machine;
 use msrp_merge::CoreLog;
+use msrp_plan::Row;
 use std::sync::Wait;
 
 // So often a `Backoff` spins before it yields.
@@ -52,6 +57,45 @@ impl Waiting {
     }
 }
 
+/// What the first half of a round came to.
+#[derive(Clone, Copy, Debug, PartialEq, Eq)]
+pub enum Begun {
+    /// The core was not let in: nothing has changed.
+    Waits,
+    /// The core was let into its tick and had its turn, which made this row. It is in the tick until [`finish`].
+    Turn(Row),
+    /// The core was told to stop.
+    Stopped,
+}
+
+/// Begins a round of a core's work: one look at the board, and where the core is let into its tick, its turn by the stage. It
+/// waits for nobody.
+pub fn begin<S: Stage>(
+    machine: &mut Machine<'_>,
+    log: &mut CoreLog,
+    board: &Board,
+    mut seat: BoardSeat,
+    stage: &S,
+) -> (Begun, BoardSeat)
+    requires { IsAtWork board.now machine.old.plan machine.old.core machine.old log.old seat }
+    ensures waits { result.0 ≡ Begun.Waits → (machine.new ≡ machine.old) × (log.new ≡ log.old) × (result.1 ≡ seat) }
+    ensures turn { (row : TraceRow) → result.0 ≡ Begun.Turn row → IsInTurn board.now machine.old.plan machine.old.core machine.new log.new result.1 }
+    ensures logged { (row : TraceRow) → result.0 ≡ Begun.Turn row → (place : Option Place) × (log.new ≡ record log.old { turns = log.old.turns ++ record { row = row; place = place } ∷ [] }) }
+    ensures next { (row : TraceRow) → result.0 ≡ Begun.Turn row → machine.new.tick ≡ machine.old.tick + 1 }
+    ensures stopped { result.0 ≡ Begun.Stopped → HasWorked board.now machine.old.plan machine.old.core log.new result.1 × (machine.new ≡ machine.old) × (log.new ≡ log.old) }
+{
+    // Read so that what every seat keeps is known of this one.
+    let _tick = seat.tick();
+    match board.look(&mut seat) {
+        Look::Wait => (Begun::Waits, seat),
+        Look::Stopped => (Begun::Stopped, seat),
+        Look::Go => {
+            let (row, back) = stage.turn(machine, log, board, seat);
+            (Begun::Turn(row), back)
+        }
+    }
+}
+
 /// What a round of a core's work came to.
 #[derive(Clone, Copy, Debug, PartialEq, Eq)]
 pub enum Progress {
@@ -63,13 +107,32 @@ pub enum Progress {
     Ended,
 }
 
+/// Ends a round: the core arrives from its tick, and waits for the next, unless that was the last.
+pub fn finish(
+    _machine: &Machine<'_>,
+    _log: &CoreLog,
+    board: &Board,
+    mut seat: BoardSeat,
+) -> (Progress, BoardSeat)
+    requires { IsInTurn board.now _machine.now.plan _machine.now.core _machine.now _log.now seat }
+    ensures waits { result.0 ≢ Waits }
+    ensures turned { result.0 ≡ Turned → IsAtWork board.now _machine.now.plan _machine.now.core _machine.now _log.now result.1 }
+    ensures ended { result.0 ≡ Ended → HasWorked board.now _machine.now.plan _machine.now.core _log.now result.1 }
+{
+    board.arrive(&mut seat);
+    match seat.phase() {
+        SeatPhase::Done => (Progress::Ended, seat),
+        _ => (Progress::Turned, seat),
+    }
+}
+
 /// One round of a core's work: one look at the board, and where the core is let into its tick, its turn by the stage and its
 /// arrival. It waits for nobody.
 pub fn round<S: Stage>(
     machine: &mut Machine<'_>,
     log: &mut CoreLog,
     board: &Board,
-    mut seat: BoardSeat,
+    seat: BoardSeat,
     stage: &S,
 ) -> (Progress, BoardSeat)
     requires { IsAtWork board.now machine.old.plan machine.old.core machine.old log.old seat }
@@ -77,19 +140,10 @@ pub fn round<S: Stage>(
     ensures turned { result.0 ≡ Turned → (machine.new.tick ≡ machine.old.tick + 1) × IsAtWork board.now machine.old.plan machine.old.core machine.new log.new result.1 }
     ensures ended { result.0 ≡ Ended → HasWorked board.now machine.old.plan machine.old.core log.new result.1 }
 {
-    // Read so that what every seat keeps is known of this one.
-    let _tick = seat.tick();
-    match board.look(&mut seat) {
-        Look::Wait => (Progress::Waits, seat),
-        Look::Stopped => (Progress::Ended, seat),
-        Look::Go => {
-            let (_, mut back) = stage.turn(machine, log, board, seat);
-            board.arrive(&mut back);
-            match back.phase() {
-                SeatPhase::Done => (Progress::Ended, back),
-                _ => (Progress::Turned, back),
-            }
-        }
+    match begin(machine, log, board, seat, stage) {
+        (Begun::Waits, seat) => (Progress::Waits, seat),
+        (Begun::Stopped, seat) => (Progress::Ended, seat),
+        (Begun::Turn(_), seat) => finish(machine, log, board, seat),
     }
 }
 

@@ -9,9 +9,9 @@ use std::thread::PromisedHandle;
 
 /// The parts of a core before its first turn: what its thread is given beside its seat.
 #[derive(Drop)]
-pub(crate) struct CoreParts<'a> {
-    pub(crate) machine: Machine<'a>,
-    pub(crate) log: CoreLog,
+pub struct CoreParts<'a> {
+    pub machine: Machine<'a>,
+    pub log: CoreLog,
 }
 
 /// That the thread of a core gives back what its worker does: the core, its seat at the start, and the plan.
