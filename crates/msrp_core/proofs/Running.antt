@@ -477,9 +477,9 @@ advanced_on jobs n s below e more next =
 
 -- what decides the choice, as it is stored
 pub state_told : (jobs : Jobs) (tick : ℕ) (log : List Row) (s : CoreState) → AreJobs jobs → s.running ≡ stack.top jobs.stack → s.head ≡ first_ready jobs.ready.plan jobs.ready.core tick (is_among jobs.ready.taken) → s.ceiling ≡ current_ceiling jobs.stack
-    → ((j : JobId) → s.running ≡ Some j → (state_of jobs j).done ≡ s.done × Contains (jobs_on jobs.plan.now jobs.core.0) j) → ((j : JobId) → Contains (jobs_on jobs.ready.plan jobs.ready.core) j → tick < release jobs.ready.plan j → s.until ≤ release jobs.ready.plan j)
+    → (s.running ≡ None → s.done ≡ 0) → ((j : JobId) → s.running ≡ Some j → (state_of jobs j).done ≡ s.done × Contains (jobs_on jobs.plan.now jobs.core.0) j) → ((j : JobId) → Contains (jobs_on jobs.ready.plan jobs.ready.core) j → tick < release jobs.ready.plan j → s.until ≤ release jobs.ready.plan j)
     → AreToldBy jobs log → IsCoreState jobs.plan.now jobs.core.0 tick log s
-state_told jobs tick log s fit running head above count quiet told =
+state_told jobs tick log s fit running head above none count quiet told =
     let plan = jobs.plan.now in
     let c = jobs.core.0 in
     let taken = jobs.ready.taken in
@@ -487,6 +487,7 @@ state_told jobs tick log s fit running head above count quiet told =
       running = running ∙ sym (running_is plan c log taken jobs.phase (active_in jobs) fit.accepted fit.are told ∙ top_of jobs fit);
       head = head ∙ (ap (λ p. first_ready p jobs.ready.core tick (is_among taken)) fit.ready_plan ∙ (ap (λ k. first_ready plan k tick (is_among taken)) fit.ready_core ∙ sym (head_is plan c log taken jobs.phase (active_in jobs) fit.accepted fit.are told tick)));
       ceiling = above ∙ sym (ceiling_is plan c log taken jobs.phase (active_in jobs) fit.accepted fit.are told ∙ ceiling_of jobs fit);
+      none = none;
       done = λ j e. let own = count j e in sym (ap (λ (k : JobState). k.done) (at_in (λ j. state_after log j ≡ state_of jobs j) (jobs_on plan c) j told own.1) ∙ own.0);
       until = subst (λ k. (j : JobId) → Contains (jobs_on plan k) j → tick < release plan j → s.until ≤ release plan j) fit.ready_core
           (subst (λ p. (j : JobId) → Contains (jobs_on p jobs.ready.core) j → tick < release p j → s.until ≤ release p j) fit.ready_plan quiet);

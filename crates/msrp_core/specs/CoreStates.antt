@@ -1,6 +1,6 @@
 -- What decides who has the turn of a core, by the definitions.
 use Rattle.std.specs.Prelude.{◌≡◌, ◌<◌, ◌≤◌}
-use Rattle.msrp_plan.specs.Common.{ℕ, List, Contains, ForSome, PlanModel, release}
+use Rattle.msrp_plan.specs.Common.{ℕ, List, Contains, ForSome, None, PlanModel, release}
 use Rattle.msrp_plan.specs.declared.ids.JobId.{JobId}
 use Rattle.msrp_plan.specs.declared.rows.Row.{Row}
 use Rattle.msrp_plan.specs.Ceiling as ceilings
@@ -15,4 +15,5 @@ pub record IsCoreState (plan : PlanModel) (c t : ℕ) (rows : List Row) (s : Cor
   pub head : s.head ≡ choices.head plan c t rows
   pub ceiling : s.ceiling ≡ ceilings.ceiling plan c rows
   pub done : ForSome s.running (λ j. s.done ≡ jobs.done j rows)
+  pub none : s.running ≡ None → s.done ≡ 0
   pub until : (j : JobId) → Contains (jobs.jobs_on plan c) j → t < release plan j → s.until ≤ release plan j

@@ -124,6 +124,7 @@ impl<'a> Machine<'a> {
     #[inline(always)]
     pub fn repeat(&mut self) -> Option<Row>
         ensures none { IfNone result (self.new ≡ self.old) }
+        ensures left { IfSome result (λ _. self.old.tick < self.old.plan.ticks) }
         ensures known { result ≡ self.old.again }
         ensures again { IfSome result (RepeatsOnly self.new) }
         ensures plan { self.new.plan ≡ self.old.plan }

@@ -15,14 +15,14 @@ use std::test::Fail;
 const G: ResId = ResId(0);
 
 // The k-th job of a task.
-fn job(task: u32, k: u32) -> JobId {
+pub(crate) fn job(task: u32, k: u32) -> JobId {
     JobId {
         task: TaskId(task),
         k,
     }
 }
 
-fn idle(tick: u32, core: u32) -> Row {
+pub(crate) fn idle(tick: u32, core: u32) -> Row {
     Row {
         tick,
         core: CoreId(core),
@@ -33,7 +33,7 @@ fn idle(tick: u32, core: u32) -> Row {
     }
 }
 
-fn run(tick: u32, core: u32, job: JobId) -> Row {
+pub(crate) fn run(tick: u32, core: u32, job: JobId) -> Row {
     Row {
         tick,
         core: CoreId(core),
@@ -45,7 +45,7 @@ fn run(tick: u32, core: u32, job: JobId) -> Row {
 }
 
 // A row on the resource, of the first job of a task.
-fn on(tick: u32, core: u32, kind: Kind, task: u32) -> Row
+pub(crate) fn on(tick: u32, core: u32, kind: Kind, task: u32) -> Row
     requires { (j : Job) (g : Resource) → has_shape kind (Some j) (Some g) ≡ true }
 {
     Row {
@@ -59,11 +59,11 @@ fn on(tick: u32, core: u32, kind: Kind, task: u32) -> Row
 }
 
 // Two cores and one resource, which task 0 of core 0 and task 1 of core 1 want in tick 0.
-const PLAN: &[u8] =
+pub(crate) const PLAN: &[u8] =
     b"msrp,1\ncores,2\nticks,6\nresource,g\ntask,a,0,20,8,0\nop,lock,g\nop,run,1\nop,unlock,g\ntask,b,1,20,8,0\nop,lock,g\nop,run,1\nop,unlock,g\n";
 
 // Core 1 gets the resource in the tick in which core 0 releases it.
-fn handover() -> [Row; 12] {
+pub(crate) fn handover() -> [Row; 12] {
     [
         on(0, 0, Kind::Take, 0),
         on(0, 1, Kind::Queue, 1),

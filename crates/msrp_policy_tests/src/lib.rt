@@ -16,4 +16,6 @@ mod plans;
 #[cfg(test)]
 mod ready;
 #[cfg(test)]
+mod simulation;
+#[cfg(test)]
 mod stack;

@@ -21,6 +21,7 @@ state_local_too plan c t rows s own told =
           let there = least_in (is_before plan) (λ i. is_started log i && not (is_finished plan log i)) (jobs_on plan c) j (sym told.running ∙ e) in
           let states : state_after log j ≡ state_after rows j = All-contains (λ i. state_after log i ≡ state_after rows i) (jobs_on plan c) j (All-from_recursion (λ i. state_after log i ≡ state_after rows i) (jobs_on plan c) same) there in
           told.done j e ∙ ap (λ (k : JobState). k.done) states;
+      none = told.none;
       until = told.until;
     }
 

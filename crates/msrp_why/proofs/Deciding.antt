@@ -39,6 +39,7 @@ other_state plan rows r c s legal away is =
           let on = least_in (is_before plan) (λ i. is_started rows i && not (is_finished plan rows i)) (jobs_on plan c) j (sym is.running ∙ e) in
           let state : state_after (rows ++ r ∷ []) j ≡ state_after rows j = All-contains (λ i. state_after (rows ++ r ∷ []) i ≡ state_after rows i) (jobs_on plan c) j (All-from_recursion (λ i. state_after (rows ++ r ∷ []) i ≡ state_after rows i) (jobs_on plan c) same) on in
           is.done j e ∙ ap (λ (s : JobState). s.done) (sym state);
+      none = is.none;
       until = is.until;
     })
 

@@ -56,3 +56,9 @@ returns-clause-again c =
     let core = acts_core m.jobs new m.job m.tick row acts ∙ sym (core_after m.jobs new m.job m.tick row acts) in
     let some : 0 < m.again = let n = c.if-self-eq0.false in omega (arith, n) in
     repeats_only (record { tick = m.tick + 1; jobs = new; again = m.again - 1; job = m.job; poll = m.poll }) row (λ _. (c.act_again.ensures.kind, acts_job m.jobs new m.job m.tick row acts)) (λ p e. absurd (none-some p (sym (c.self.invariant.apart some) ∙ e))) core
+
+pub returns-clause-left : goal.returns-clause-left
+returns-clause-left c =
+    let some : 0 < c.self.inside.again = let n = c.if-self-eq0.false in omega (arith, n) in
+    let left = (c.self.invariant.repeats some).left in
+    subst (λ (m : MachineModel). m.tick < m.plan.ticks) c.self.view_is (omega (arith, some, left))
