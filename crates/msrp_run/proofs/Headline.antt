@@ -1,6 +1,6 @@
 -- From the workers' logs and the settled board to the trace.
 use Rattle.std.proofs.Common.{◌≡◌, ◌⊎◌, ◌<◌, ◌≤◌, ◌∙◌}
-use Rattle.msrp_plan.proofs.Common.{ℕ, List, [], length, Bool, true, false, nat_lt, Some, refl, sym, ap, subst, arith, inl, inr, slice_get, is_some, ltb-false, ltb-true, get_or_from_slice_get, slice_get_within, PlanModel}
+use Rattle.msrp_plan.proofs.Common.{ℕ, List, [], length, Bool, true, false, nat_lt, Some, refl, sym, ap, subst, arith, inl, inr, slice_get, is_some, ltb-false, ltb-true, get_or_from_slice_get, slice_get_within, PlanModel, IsPlan, carries_ahead}
 use Rattle.msrp_plan.specs.declared.rows.Row.{Row}
 use Rattle.std.specs.Prelude.{filter}
 use Rattle.msrp_board.specs.declared.answers.SeatPhase.TheVariants.{Done, Stopped}
@@ -11,12 +11,13 @@ use Rattle.msrp_board.specs.Books.{phase_by, phase_in, admissions, admissions_of
 use Rattle.msrp_board.specs.Boards.{WholeBoard, IsTied, entries_at}
 use Rattle.msrp_board.specs.History.{Event, IsHistory}
 use Rattle.msrp_board.specs.Seats.{BoardModel, SeatModel, HasAll, book_at, empty_book}
-use Rattle.msrp_merge.specs.Merging.{log_at, turns_of, size_of}
+use Rattle.msrp_plan.proofs.Runs.KeptLaws.{keeps_laws}
+use Rattle.msrp_merge.specs.Merging.{AreLogs, IsMergeOf, log_at, turns_of, size_of}
 use Rattle.msrp_merge.specs.Pairs.{Paired}
 use Rattle.msrp_merge.specs.Steps.{is_row_on, IsRowOfEvent}
-use Rattle.msrp_merge.specs.Turns.{LogModel, Fits}
+use Rattle.msrp_merge.specs.Turns.{LogModel, Fits, rows_of}
 use Rattle.msrp_run.specs.declared.workers.Ended.{Ended}
-use Rattle.msrp_run.specs.Threads.{AllWorked, HasEnded, HasRun, IsCalledOff, IsServedAs, ordered}
+use Rattle.msrp_run.specs.Threads.{AllWorked, AreDone, HasEnded, HasRun, IsCalledOff, IsRunOfBoard, IsServedAs, ordered}
 use Rattle.msrp_run.specs.Work.{IsWhole, IsWorked}
 use Rattle.msrp_run.proofs.Working.{none_left}
 
@@ -134,9 +135,24 @@ left_off board plan ended whole e same did size tied off =
     is_called_off plan ended.logs.items ended.seat whole e.each same (did_as_ordered board plan ended whole e did ∙ ap ordered off) size tied
 
 -- the rows on a resource are its history, which the board's rule tells
-pub served_as : (board : WholeBoard) (plan : PlanModel) (rows : List Row) → board.size ≡ size_of plan → IsTied board → ((g : ℕ) (h : List Event) → g < length plan.resources → IsHistory g (entries_at board.books) h → Paired IsRowOfEvent (filter (is_row_on g) rows) h)
+served_as : (board : WholeBoard) (plan : PlanModel) (rows : List Row) → board.size ≡ size_of plan → IsTied board → ((g : ℕ) (h : List Event) → g < length plan.resources → IsHistory g (entries_at board.books) h → Paired IsRowOfEvent (filter (is_row_on g) rows) h)
     → (g : ℕ) → g < length plan.resources → IsServedAs board g rows
 served_as board plan rows size tied history g low =
     let e = ap (λ (z : BoardSize). z.resources) size in
     let h = tied.served g (omega (arith, low, e)) in
     (h.0, h.1, history g h.0 low h.1.history)
+
+-- the merge of the logs is a run of the board
+pub run_of_board : (plan : PlanModel) (logs : List LogModel) (board : WholeBoard) (rows : List Row) → IsPlan plan → AreLogs plan logs (entries_at board.books) → ((c : ℕ) → c < plan.cores → carries_ahead (rows_of (turns_of logs c)) ≡ true)
+    → (board.size ≡ size_of plan) × IsTied board → board.conductor ≡ Opened → AreDone plan.ticks board.books → IsMergeOf plan logs (entries_at board.books) rows → IsRunOfBoard plan board rows
+run_of_board plan logs board rows ok fit aheads is opened done merged = record {
+  run = merged.run;
+  laws = keeps_laws plan rows ok merged.run;
+  aheads = merged.aheads aheads;
+  sized = is.0;
+  tied = is.1;
+  opened = opened;
+  done = done;
+  history = served_as board plan rows is.0 is.1 merged.history;
+  order = record { logs = logs; fit = fit; turns = merged.order.0; rows_are = merged.order.1; sorted = merged.order.2 };
+}

@@ -1,5 +1,5 @@
 -- The workers of all cores: what they are given, what their threads promise, and what they leave.
-use Rattle.msrp_plan.specs.Common.{ℕ, List, [], Bool, true, false, Some, IsSome, IsTrue, length, slice_get, slice_index, slice_index_or, carries_ahead, PlanModel}
+use Rattle.msrp_plan.specs.Common.{ℕ, List, [], Bool, true, false, Some, IsSome, IsTrue, length, slice_get, slice_index, slice_index_or, carries_ahead, PlanModel, IsRun}
 use Rattle.msrp_plan.specs.declared.rows.Row.{Row}
 use Rattle.std.specs.Prelude.{◌≡◌, ◌<◌, ◌≤◌, filter}
 use Rattle.std.specs.declared.thread.PromisedHandle.{PromisedHandle}
@@ -8,13 +8,14 @@ use Rattle.msrp_board.specs.declared.books.Book.{Book}
 use Rattle.msrp_board.specs.declared.books.Conductor.{Conductor}
 use Rattle.msrp_board.specs.declared.books.Conductor.TheVariants.{Unopened, Opened, Aborted}
 use Rattle.msrp_board.specs.declared.books.Entry.{Entry}
-use Rattle.msrp_board.specs.Boards.{WholeBoard, entries_at}
+use Rattle.msrp_plan.specs.Laws.{KeepsLaws}
+use Rattle.msrp_board.specs.Boards.{WholeBoard, IsTied, entries_at}
 use Rattle.msrp_board.specs.Books.{phase_in}
 use Rattle.msrp_board.specs.History.{Event, IsServed}
 use Rattle.msrp_board.specs.Seats.{BoardModel, SeatModel, book_at, empty_book}
 use Rattle.msrp_core.specs.Machine.{StandsAfter}
 use Rattle.msrp_merge.specs.declared.logs.Turn.{Turn}
-use Rattle.msrp_merge.specs.Merging.{AreLogs, log_at, turns_of}
+use Rattle.msrp_merge.specs.Merging.{AreLogs, log_at, size_of, turns_of}
 use Rattle.msrp_merge.specs.Pairs.{Paired}
 use Rattle.msrp_merge.specs.Sorting.{IsMerged}
 use Rattle.msrp_merge.specs.Steps.{is_row_on, IsRowOfEvent}
@@ -102,3 +103,21 @@ pub record IsInOrder (plan : PlanModel) (books : ℕ → List Entry) (rows : Lis
   pub turns : List Turn
   pub rows_are : rows ≡ rows_of turns
   pub sorted : IsMerged plan.cores plan.ticks (turns_of logs) turns
+
+-- the rows are a legal run of the plan, which keeps the laws and tells the length of each queue; and they are what the cores did
+-- on this board: it was opened, each core has arrived from its last tick, the steps on each resource are its one history, and
+-- the rows stand in the board's order
+pub record IsRunOfBoard (plan : PlanModel) (board : WholeBoard) (rows : List Row) : Type 0 where
+  pub run : IsRun plan rows
+  pub laws : KeepsLaws plan rows
+  pub aheads : carries_ahead rows ≡ true
+  pub sized : board.size ≡ size_of plan
+  pub tied : IsTied board
+  pub opened : board.conductor ≡ Opened
+  pub done : AreDone plan.ticks board.books
+  pub history : (g : ℕ) → g < length plan.resources → IsServedAs board g rows
+  pub order : IsInOrder plan (entries_at board.books) rows
+
+-- the rows are what the cores did on some board
+abbrev pub IsRunOnThreads : PlanModel → List Row → Type 0
+IsRunOnThreads plan rows = (board : WholeBoard) × IsRunOfBoard plan board rows

@@ -1,12 +1,11 @@
 //! A thread for each core: they are started, let in, and joined.
 ghost use Rattle.std.specs.Prelude.{◌≡◌, ◌+◌, ◌<◌, ◌≤◌};
-ghost use Rattle.msrp_plan.specs.Common.{ℕ, [], IfOk, IfErr, IsTrue, length, true, false, vec_capacity, vec_len, carries_ahead, IsRun, IsPlan};
-ghost use Rattle.msrp_plan.specs.Laws.{KeepsLaws};
+ghost use Rattle.msrp_plan.specs.Common.{ℕ, [], IfOk, IfErr, IsTrue, length, true, false, vec_capacity, vec_len, carries_ahead, IsPlan};
 ghost use Rattle.msrp_board.specs.declared.books.Conductor.TheVariants.{Opened, Aborted};
 ghost use Rattle.msrp_board.specs.Boards.{IsTied, entries_at};
 ghost use Rattle.msrp_merge.specs.Merging.{AreLogs, size_of, turns_of};
 ghost use Rattle.msrp_merge.specs.Turns.{rows_of};
-ghost use Rattle.msrp_run.specs.Threads.{AreDone, AllAreNew, ArePromised, HasEnded, HasRest, HasRun, HasOthers, IsCalledOff, IsInOrder, AreNewParts, IsPromise, IsServedAs, ordered};
+ghost use Rattle.msrp_run.specs.Threads.{AreDone, AllAreNew, ArePromised, HasEnded, HasRest, HasRun, HasOthers, IsCalledOff, IsRunOfBoard, AreNewParts, IsPromise, ordered};
 ghost use Rattle.msrp_run.specs.Work.{HasWorked, IsNew};
 
 use crate::hire::{Hire, HireAll, RunError};
@@ -391,23 +390,9 @@ pub fn run_threads_if<R: Threads + Wait + Sync, S: Stage + Sync, H: Hire>(
     stage: &S,
     hire: &H,
 ) -> Result<(Trace, Settled), RunError>
-    ensures run { IfOk result (λ r. IsRun plan.now r.0.rows.items) }
-
-    // So it keeps the laws of legal runs: each resource has one holder at most, others come to hold it at most m - 1 times
-    // while a job waits for it, on m cores, a local one is locked only where no other job holds it, and spinning and blocking are bounded.
-    ensures laws { IfOk result (λ r. KeepsLaws plan.now r.0.rows.items) }
-
-    // The steps on each resource are its one history on the board, in order.
-    ensures history { IfOk result (λ r. (g : ℕ) → g < length plan.now.resources → IsServedAs r.1 g r.0.rows.items) }
-    ensures aheads { IfOk result (λ r. carries_ahead r.0.rows.items ≡ true) }
-
-    // The rows stand by tick. In a tick those without a place come first, by core; then the others by resource and place.
-    ensures order { IfOk result (λ r. IsInOrder plan.now (entries_at r.1.books) r.0.rows.items) }
-
-    // The board is that of this run: it was opened, and each core has arrived from its last tick.
-    ensures board { IfOk result (λ r. (r.1.size ≡ size_of plan.now) × IsTied r.1) }
-    ensures opened { IfOk result (λ r. r.1.conductor ≡ Opened) }
-    ensures done { IfOk result (λ r. AreDone plan.now.ticks r.1.books) }
+    // The rows are a legal run, and what the cores did on this board. So each resource has one holder at most, others come to
+    // hold it at most m - 1 times while a job waits for it, on m cores, and spinning and blocking are bounded.
+    ensures run { IfOk result (λ r. IsRunOfBoard plan.now r.1 r.0.rows.items) }
 {
     let (logs, settled) = run_logged_if(rt, alloc, plan, stage, hire)?;
     let trace = merge(alloc, plan, &logs, &settled)?;
@@ -421,14 +406,7 @@ pub fn run_threads<R: Threads + Wait + Sync, S: Stage + Sync>(
     plan: &Plan,
     stage: &S,
 ) -> Result<(Trace, Settled), RunError>
-    ensures run { IfOk result (λ r. IsRun plan.now r.0.rows.items) }
-    ensures laws { IfOk result (λ r. KeepsLaws plan.now r.0.rows.items) }
-    ensures history { IfOk result (λ r. (g : ℕ) → g < length plan.now.resources → IsServedAs r.1 g r.0.rows.items) }
-    ensures aheads { IfOk result (λ r. carries_ahead r.0.rows.items ≡ true) }
-    ensures order { IfOk result (λ r. IsInOrder plan.now (entries_at r.1.books) r.0.rows.items) }
-    ensures board { IfOk result (λ r. (r.1.size ≡ size_of plan.now) × IsTied r.1) }
-    ensures opened { IfOk result (λ r. r.1.conductor ≡ Opened) }
-    ensures done { IfOk result (λ r. AreDone plan.now.ticks r.1.books) }
+    ensures run { IfOk result (λ r. IsRunOfBoard plan.now r.1 r.0.rows.items) }
 {
     run_threads_if(rt, alloc, plan, stage, &HireAll)
 }

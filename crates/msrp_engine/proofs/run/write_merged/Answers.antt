@@ -15,7 +15,7 @@ pub row-row-requires : goal.row-row-requires
 row-row-requires g c =
     let run = c.loop-turn.invariant in
     let both = length-append run.0 c.loop-turn.merging in
-    let all = ap length run.2 ∙ c.requires.run.size in
+    let all = ap length run.2 ∙ c.requires.run.1.run.size in
     let so_far = run.3 in
     let a = ap (λ m. m * c.ticks.result) c.cores.ensures.value in
     let b = ap (λ t. c.args.plan.now.cores * t) c.ticks.ensures.value in
@@ -25,7 +25,7 @@ pub row-requires : goal.row-requires
 row-requires g c =
     let run = c.loop-turn.invariant in
     let whole : c.args.merging ≡ run.0 ++ c.row-row.result ∷ c.row-row.new.self = sym run.2 ∙ ap (λ l. run.0 ++ l) c.row-row.ensures in
-    subst (λ p. is_named p c.row-row.result ≡ true) (sym (ap (λ (w : WriterModel). w.plan) run.4)) (run_row_named c.args.plan.now run.0 c.row-row.new.self c.row-row.result c.cores.ensures.plan (subst (IsRun c.args.plan.now) whole c.requires.run))
+    subst (λ p. is_named p c.row-row.result ≡ true) (sym (ap (λ (w : WriterModel). w.plan) run.4)) (run_row_named c.args.plan.now run.0 c.row-row.new.self c.row-row.result c.cores.ensures.plan (subst (IsRun c.args.plan.now) whole c.requires.run.1.run))
 
 pub loop-turn-preserved : goal.loop-turn-preserved
 loop-turn-preserved g c =
@@ -47,7 +47,7 @@ pub returns-clause-run : goal.returns-clause-run
 returns-clause-run g c =
     let run = c.loop-turn.invariant in
     let both = length-append run.0 c.loop-turn.merging in
-    let all = ap length run.2 ∙ c.requires.run.size in
+    let all = ap length run.2 ∙ c.requires.run.1.run.size in
     let so_far = run.3 in
     let a = ap (λ m. m * c.ticks.result) c.cores.ensures.value in
     let b = ap (λ t. c.args.plan.now.cores * t) c.ticks.ensures.value in
@@ -56,6 +56,5 @@ returns-clause-run g c =
     record {
       rows = c.args.merging;
       run = c.requires.run;
-      aheads = c.requires.aheads;
       text = gathers-all _ _ _ _ _ _ (gathers-as _ _ _ _ _ _ _ (ap (trace_text c.args.version c.args.plan.now) whole) run.1) c.finish.ensures.wrote;
     }
