@@ -4,9 +4,9 @@ ghost use Rattle.std.specs.Prelude.{◌≡◌, ◌⊎◌};
 ghost use Rattle.msrp_plan.specs.Common.{true, false, Err, OnOk, OnErr, sink_failed, IsPlan};
 ghost use Rattle.msrp_text.specs.Reading.{plan_of};
 ghost use Rattle.msrp_faults.specs.Outcomes.{written_status, is_sim_fault};
-ghost use Rattle.msrp_run.specs.Threads.{IsRunOnThreads};
+ghost use Rattle.msrp_run.specs.Threads.{IsThreadedRun};
 ghost use Rattle.msrp_engine.specs.Answered.{AnsweredPlan, OfText};
-ghost use Rattle.msrp_engine.specs.Running.{RunAnswers, WritesRun, WritesSomeRun};
+ghost use Rattle.msrp_engine.specs.Running.{RunAnswers, WritesThreadedRun, WritesSomeThreadedRun};
 
 use msrp_faults::CliFault;
 use msrp_merge::Merging;
@@ -28,8 +28,8 @@ fn write_merged<W: Write>(
     version: TextVersion,
     out: &mut Sink<W>,
 ) -> Result<(), WriteFault>
-    requires run { IsRunOnThreads plan.now merging }
-    ensures run { WritesRun W.contents version plan.now out.old out.new }
+    requires run { IsThreadedRun plan.now merging }
+    ensures run { WritesThreadedRun W.contents version plan.now out.old out.new }
     ensures good { OnOk result (sink_failed out.new ≡ false) }
     ensures fault { OnErr result (sink_failed out.new ≡ true) }
 {
@@ -53,7 +53,7 @@ fn write_run<T: Threads + Wait + Sync, W: Write, S: Stage + Sync, H: Hire>(
     stage: &S,
     hire: &H,
 ) -> Result<u8, CliFault>
-    ensures { (((result ≡ Err CliFault.Memory) ⊎ (result ≡ Err CliFault.Threads)) × (out.new ≡ out.old)) ⊎ (IsPlan plan.now × WritesRun W.contents version plan.now out.old out.new × (result ≡ written_status out.new)) }
+    ensures { (((result ≡ Err CliFault.Memory) ⊎ (result ≡ Err CliFault.Threads)) × (out.new ≡ out.old)) ⊎ (IsPlan plan.now × WritesThreadedRun W.contents version plan.now out.old out.new × (result ≡ written_status out.new)) }
 {
     let (logs, settled) = run_logged_if(rt, alloc, plan, stage, hire)?;
     let merging = Merging::new(alloc, plan, &logs, &settled)?;
@@ -80,7 +80,7 @@ pub fn run_text_by<T: Threads + Wait + Sync, P: Read, W: Write, S: Stage + Sync,
     ensures answer { OfText P.remaining plan.old result (λ records. (result ≡ Err CliFault.Threads) ⊎ RunAnswers W.contents version (plan_of records) out.old out.new result) }
 
     // Whatever the reader tells.
-    ensures written { OnOk result (WritesSomeRun W.contents version out.old out.new) }
+    ensures written { OnOk result (WritesSomeThreadedRun W.contents version out.old out.new) }
     ensures always { AnsweredPlan (λ fault. (fault ≡ CliFault.Threads) ⊎ (is_sim_fault fault ≡ true)) plan.new out.old out.new result }
 {
     let plan = read_plan(alloc, plan)?;
@@ -98,7 +98,7 @@ pub fn run_text_if<T: Threads + Wait + Sync, P: Read, W: Write, H: Hire>(
     hire: &H,
 ) -> Result<u8, CliFault>
     ensures answer { OfText P.remaining plan.old result (λ records. (result ≡ Err CliFault.Threads) ⊎ RunAnswers W.contents version (plan_of records) out.old out.new result) }
-    ensures written { OnOk result (WritesSomeRun W.contents version out.old out.new) }
+    ensures written { OnOk result (WritesSomeThreadedRun W.contents version out.old out.new) }
     ensures always { AnsweredPlan (λ fault. (fault ≡ CliFault.Threads) ⊎ (is_sim_fault fault ≡ true)) plan.new out.old out.new result }
 {
     run_text_by(rt, alloc, plan, out, version, &Plain, hire)
@@ -114,7 +114,7 @@ pub fn run_text<T: Threads + Wait + Sync, P: Read, W: Write>(
     version: TextVersion,
 ) -> Result<u8, CliFault>
     ensures answer { OfText P.remaining plan.old result (λ records. (result ≡ Err CliFault.Threads) ⊎ RunAnswers W.contents version (plan_of records) out.old out.new result) }
-    ensures written { OnOk result (WritesSomeRun W.contents version out.old out.new) }
+    ensures written { OnOk result (WritesSomeThreadedRun W.contents version out.old out.new) }
     ensures always { AnsweredPlan (λ fault. (fault ≡ CliFault.Threads) ⊎ (is_sim_fault fault ≡ true)) plan.new out.old out.new result }
 {
     run_text_if(rt, alloc, plan, out, version, &HireAll)

@@ -119,5 +119,5 @@ pub record IsRunOfBoard (plan : PlanModel) (board : WholeBoard) (rows : List Row
   pub order : IsInOrder plan (entries_at board.books) rows
 
 -- the rows are what the cores did on some board
-abbrev pub IsRunOnThreads : PlanModel → List Row → Type 0
-IsRunOnThreads plan rows = (board : WholeBoard) × IsRunOfBoard plan board rows
+abbrev pub IsThreadedRun : PlanModel → List Row → Type 0
+IsThreadedRun plan rows = (board : WholeBoard) × IsRunOfBoard plan board rows
