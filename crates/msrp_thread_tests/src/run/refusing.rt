@@ -3,13 +3,17 @@
 
 use super::plans::{hot, two_sections};
 use super::stages::Counting;
-use super::texts::PLAN;
+use super::texts::{LONG_PLAN, PLAN};
 use msrp_engine::{CliFault, exit_of, run_text_if};
 use msrp_plan::bytes::{Sink, Source};
 use msrp_plan::{CoreId, TextVersion};
 use msrp_run::{Hire, RunError, run_threads, run_threads_if};
+use std::alloc::Global;
+use std::process::Abort;
+use std::sync::Wait;
 use std::sync::atomic::{AtomicU64, Ordering};
 use std::test::*;
+use std::thread::Threads;
 
 const TICKS: u32 = 6;
 
@@ -62,25 +66,44 @@ fn a_refused_thread_stops_the_run(rt: HostRuntime) -> Result<(), Fail> {
     Ok(())
 }
 
-// The engine tells it, and nothing is written.
+// So it is in the longest run, whose last thread is refused.
+#[test]
+fn a_refused_thread_stops_a_long_run(rt: HostRuntime) -> Result<(), Fail> {
+    let plan = hot(rt.alloc(), 8, 20000)?;
+    let stage = Counting::new();
+    let hire = AllBut::of(7);
+    let answer = run_threads_if(&rt, rt.alloc(), &plan, &stage, &hire).err();
+    assert_eq!(rt; answer, Some(RunError::U2));
+    assert_eq!(rt; stage.turns(), 0);
+    assert_eq!(rt; hire.asked(), 8);
+    Ok(())
+}
+
+// The engine tells that the thread of this core is refused, and nothing is written.
+fn expect_told<R: Threads + Wait + Sync + Abort>(
+    rt: &R,
+    alloc: Global,
+    plan: &[u8],
+    version: TextVersion,
+    core: u32,
+) {
+    let mut written = Vec::new(alloc);
+    let mut source = Source::new(plan);
+    let mut out = Sink::new(&mut written);
+    let hire = AllBut::of(core);
+    let answer = run_text_if(rt, alloc, &mut source, &mut out, version, &hire);
+    assert!(rt; answer == Err(CliFault::Threads));
+    assert_eq!(rt; exit_of(&answer), 4);
+    assert!(rt; written.is_empty());
+}
+
 #[test]
 fn a_refused_thread_is_told(rt: HostRuntime) {
-    for core in 0..2 {
-        let mut written = Vec::new(rt.alloc());
-        let mut source = Source::new(PLAN);
-        let mut out = Sink::new(&mut written);
-        let hire = AllBut::of(core);
-        let answer = run_text_if(
-            &rt,
-            rt.alloc(),
-            &mut source,
-            &mut out,
-            TextVersion::V1,
-            &hire,
-        );
-        assert!(rt; answer == Err(CliFault::Threads));
-        assert_eq!(rt; exit_of(&answer), 4);
-        assert!(rt; written.is_empty());
+    for version in [TextVersion::V1, TextVersion::V2] {
+        for core in 0..2 {
+            expect_told(&rt, rt.alloc(), PLAN, version, core);
+        }
+        expect_told(&rt, rt.alloc(), LONG_PLAN, version, 7);
     }
 }
 

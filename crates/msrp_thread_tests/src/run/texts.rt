@@ -2,7 +2,7 @@
 
 use super::meeting::expect_kept;
 use super::plans::two_sections;
-use super::stages::OneFirst;
+use super::stages::{Counting, OneFirst};
 use msrp_engine::run_text_by;
 use msrp_plan::bytes::{Sink, Source};
 use msrp_plan::{CoreId, Plan, Row, TextVersion};
@@ -22,6 +22,13 @@ const ZERO_FIRST: &[u8] =
 
 const ONE_FIRST: &[u8] =
     b"msrp-trace,2,2,6\n0,1,take,b,0,g,-\n0,0,queue,a,0,g,1\n1,1,run,b,0,-,-\n1,0,spin,a,0,g,-\n";
+
+const ONE_FIRST_WITHOUT_AHEADS: &[u8] =
+    b"msrp-trace,1,2,6\n0,1,take,b,0,g\n0,0,queue,a,0,g\n1,1,run,b,0,-\n1,0,spin,a,0,g\n";
+
+// A job on each of eight cores, all the time of the longest run.
+pub const LONG_PLAN: &[u8] =
+    b"msrp,1\ncores,8\nticks,20000\ntask,a,0,20,20,0\nop,run,20\ntask,b,1,20,20,0\nop,run,20\ntask,c,2,20,20,0\nop,run,20\ntask,d,3,20,20,0\nop,run,20\ntask,e,4,20,20,0\nop,run,20\ntask,f,5,20,20,0\nop,run,20\ntask,g,6,20,20,0\nop,run,20\ntask,h,7,20,20,0\nop,run,20\n";
 
 // The rows that a reader has left.
 fn rows_left<R: Read>(
@@ -76,4 +83,33 @@ fn a_text_has_the_rows_of_the_turns(rt: HostRuntime) -> Result<(), Fail> {
         expect_kept(&rt, &rows, stage.rows());
     }
     Ok(())
+}
+
+#[test]
+fn a_text_without_aheads_is_of_the_turns(rt: HostRuntime) -> Result<(), Fail> {
+    let plan = two_sections(rt.alloc())?;
+    let stage = OneFirst::of(rt.alloc(), &plan, CoreId(1))?;
+    let mut written = Vec::new(rt.alloc());
+    let mut source = Source::new(PLAN);
+    let mut out = Sink::new(&mut written);
+    let version = TextVersion::V1;
+    let answer = run_text_by(&rt, rt.alloc(), &mut source, &mut out, version, &stage, &HireAll);
+    assert!(rt; answer == Ok(0));
+    assert!(rt; stage.followed());
+    assert!(rt; written.as_slice().starts_with(ONE_FIRST_WITHOUT_AHEADS));
+    Ok(())
+}
+
+// In both versions.
+#[test]
+fn each_turn_of_a_long_text_is_made_by_the_stage(rt: HostRuntime) {
+    for version in [TextVersion::V1, TextVersion::V2] {
+        let stage = Counting::new();
+        let mut written = Vec::new(rt.alloc());
+        let mut source = Source::new(LONG_PLAN);
+        let mut out = Sink::new(&mut written);
+        let answer = run_text_by(&rt, rt.alloc(), &mut source, &mut out, version, &stage, &HireAll);
+        assert!(rt; answer == Ok(0));
+        assert_eq!(rt; stage.turns(), 160_000);
+    }
 }
