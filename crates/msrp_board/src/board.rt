@@ -247,8 +247,20 @@ impl Board {
         (own, others)
     }
 
-    /// One seat with the books of both.
+    /// One seat with the books of both. What they hold is part of a whole board that keeps the rule, as
+    /// [`Board::confirm`] tells.
     pub fn join(&self, seat: BoardSeat, other: BoardSeat) -> BoardSeat
+        requires board { (seat.board ≡ self.now) × (other.board ≡ self.now) }
+        ensures both { result ≡ both seat other }
+        ensures stands { StandsIn result }
+    {
+        let mut joined = self.joined(seat, other);
+        self.confirm(&mut joined);
+        joined
+    }
+
+    // One seat with the books of both.
+    fn joined(&self, seat: BoardSeat, other: BoardSeat) -> BoardSeat
         requires board { (seat.board ≡ self.now) × (other.board ≡ self.now) }
         ensures { result ≡ both seat other }
     {

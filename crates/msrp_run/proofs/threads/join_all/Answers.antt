@@ -22,7 +22,7 @@ loop-handle-preserved g c =
     let done : length logs ≡ vec_len c.loop-handle.logs = grind rules in (
       search rules,
       (λ k d low. let h = was.1 (k + 1) d in grind rules),
-      subst (λ s. AllWorked c.args._plan.now (vec_items c.push_reserved.new.self) s) (sym c.join-others.ensures) (subst (λ l. AllWorked c.args._plan.now l (both seat others)) (sym c.push_reserved.ensures.items) more.0),
+      subst (λ s. AllWorked c.args._plan.now (vec_items c.push_reserved.new.self) s) (sym c.join-others.ensures.both) (subst (λ l. AllWorked c.args._plan.now l (both seat others)) (sym c.push_reserved.ensures.items) more.0),
       search rules,
-      rest_joined _ _ _ seat others c.join-others.result was.4 more.1 c.join-others.ensures (ap (λ (s : SeatModel). s.conductor) c.join-others.ensures ∙ more.2) (λ k from. more.3 k (omega (arith, from, some, count, done))),
+      rest_joined _ _ _ seat others c.join-others.result was.4 more.1 c.join-others.ensures.both (ap (λ (s : SeatModel). s.conductor) c.join-others.ensures.both ∙ more.2) (λ k from. more.3 k (omega (arith, from, some, count, done))),
     )

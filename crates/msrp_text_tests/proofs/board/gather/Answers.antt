@@ -11,5 +11,5 @@ loop-player-preserved c = (
       let same : get_or c.pop.new.self.items k d ≡ get_or c.loop-player.players.items k d = sym (get_or_append_left c.pop.new.self.items (c.in-Some.player ∷ []) d k low) ∙ ap (λ (xs : List Player). get_or xs k d) (sym items) in
       let more = ap length items ∙ length-append c.pop.new.self.items (c.in-Some.player ∷ []) in
       subst (λ (p : Player). IsCoreSeatOn c.args.board.now p.seat) (sym same) (c.loop-player.invariant.0 k d (omega (arith, more, low)))),
-  ap (λ (s : SeatModel). s.board) c.join-all.ensures ∙ c.loop-player.invariant.1,
+  ap (λ (s : SeatModel). s.board) c.join-all.ensures.both ∙ c.loop-player.invariant.1,
 )

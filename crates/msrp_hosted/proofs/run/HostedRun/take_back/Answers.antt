@@ -32,7 +32,7 @@ invariant_of-self c =
     let cores = ap (λ (z : BoardSize). z.cores) i.size in
     let all : c.self.inside.handed ≡ plan.cores = subst (λ (r : HostedRunModel). r.handed ≡ r.plan.cores) (sym c.self.view_is) c.requires.can.all in
     let opened_is = subst (λ s. IsOpened board plan s logs) rest_is (i.opened all) in
-    let joined = one_joined board plan m.core c.in-Some-Some.rest c.in-Some-Some.seat c.join.result logs log opened_is w at (omega (arith, low, on, cores)) c.join.ensures in
+    let joined = one_joined board plan m.core c.in-Some-Some.rest c.in-Some-Some.seat c.join.result logs log opened_is w at (omega (arith, low, on, cores)) c.join.ensures.both in
     let room = i.room in
     let capacity = c.push_reserved.ensures.capacity in
     record {

@@ -14,7 +14,7 @@ merge-requires-clause-logs c =
     let rest = c.args.others in
     let whole = c.settle-settled.result in
     let e = c.settle-settled.ensures in
-    let joined : c.join-others-2.result ≡ both other (both seat rest) = c.join-others-2.ensures ∙ ap (both other) c.join-others.ensures in
+    let joined : c.join-others-2.result ≡ both other (both seat rest) = c.join-others-2.ensures.both ∙ ap (both other) c.join-others.ensures.both in
     let left : AreLeft c.args.board c.args.plan.now first second seat other rest = record { cores = c.requires.cores; size = c.requires.size; rest_has = c.requires.rest; zero = c.requires.zero; one = c.requires.one } in
     let run =
     has_left c.args.board c.args.plan.now first second seat other rest whole left

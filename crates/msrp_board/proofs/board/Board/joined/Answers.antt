@@ -2,7 +2,7 @@ use Rattle.std.proofs.Common.{◌∙◌, ◌≡◌}
 use Rattle.msrp_plan.proofs.Common.{sym, ap}
 use Rattle.msrp_board.specs.Seats.{BoardModel, SeatModel}
 use Rattle.msrp_board.proofs.SeatParts.{joined_tie, both_is_seat, both_seen}
-use Rattle.msrp_board.proofs.board.Board.join.Goals as goal
+use Rattle.msrp_board.proofs.board.Board.joined.Goals as goal
 
 pub invariant_of-result : goal.invariant_of-result
 invariant_of-result c =
