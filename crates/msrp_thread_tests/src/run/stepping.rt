@@ -13,7 +13,7 @@ use msrp_core::Machine;
 use msrp_levels::Levels;
 use msrp_merge::{CoreLog, Place, merge};
 use msrp_plan::Kind::{Grant, Idle, Queue, Release, Run, Spin, Take};
-use msrp_plan::{CoreId, Kind, Memory, Plan, Row, Trace};
+use msrp_plan::{CoreId, JobId, Kind, Memory, Plan, ResId, Row, TaskId, Trace};
 use msrp_run::{Plain, Progress, round};
 use std::alloc::Global;
 use std::process::Abort;
@@ -215,11 +215,24 @@ fn expect_places(rt: &impl Abort, log: &CoreLog, due: &[Option<(u32, bool)>]) {
     }
 }
 
+// The core's one job, unless it idles; the resource, where the row is on it; and how many were ahead of a request.
+fn parts_of(core: u32, kind: Kind) -> (Option<JobId>, Option<ResId>, Option<u32>) {
+    let task = TaskId(core);
+    let job = Some(JobId { task, k: 0 });
+    match kind {
+        Idle => (None, None, None),
+        Run => (job, None, None),
+        Queue => (job, Some(G), Some(1)),
+        _ => (job, Some(G), None),
+    }
+}
+
 // A trace has these rows.
 fn expect_rows(rt: &impl Abort, rows: &[Row], due: &[(u32, u32, Kind)]) {
     assert_eq!(rt; rows.len(), due.len());
     for (row, (tick, core, kind)) in rows.iter().zip(due) {
         assert_eq!(rt; (row.tick, row.core.0, row.kind), (*tick, *core, *kind));
+        assert_eq!(rt; (row.job, row.res, row.ahead), parts_of(*core, *kind));
     }
 }
 
