@@ -8,8 +8,8 @@ use Rattle.msrp_run.proofs.threads.run_threads_if.Goals as goal
 pub merge-requires-clause-logs : goal.merge-requires-clause-logs
 merge-requires-clause-logs g c = subst (λ (l : List LogModel). AreLogs c.args.plan.now l (entries_at c.in_ok-logs.settled.books)) (sym c.deref.ensures.value) c.in_ok-logs.ensures.logs
 
-pub returns-clause-run : goal.returns-clause-run
-returns-clause-run g c =
+pub returns : goal.returns
+returns g c =
     let plan = c.args.plan.now in
     let board = c.in_ok-logs.settled in
     let rows = c.in_ok-trace.trace.rows.items in
