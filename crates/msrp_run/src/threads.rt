@@ -392,7 +392,7 @@ pub fn run_threads_if<R: Threads + Wait + Sync, S: Stage + Sync, H: Hire>(
 ) -> Result<(Trace, Settled), RunError>
     // The rows are a legal run, and what the cores did on this board. So each resource has one holder at most, others come to
     // hold it at most m - 1 times while a job waits for it, on m cores, and spinning and blocking are bounded.
-    ensures run { IfOk result (λ r. IsRunOfBoard plan.now r.1 r.0.rows.items) }
+    ensures { IfOk result (λ r. IsRunOfBoard plan.now r.1 r.0.rows.items) }
 {
     let (logs, settled) = run_logged_if(rt, alloc, plan, stage, hire)?;
     let trace = merge(alloc, plan, &logs, &settled)?;
@@ -406,7 +406,7 @@ pub fn run_threads<R: Threads + Wait + Sync, S: Stage + Sync>(
     plan: &Plan,
     stage: &S,
 ) -> Result<(Trace, Settled), RunError>
-    ensures run { IfOk result (λ r. IsRunOfBoard plan.now r.1 r.0.rows.items) }
+    ensures { IfOk result (λ r. IsRunOfBoard plan.now r.1 r.0.rows.items) }
 {
     run_threads_if(rt, alloc, plan, stage, &HireAll)
 }

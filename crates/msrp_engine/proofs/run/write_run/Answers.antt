@@ -20,4 +20,4 @@ write_merged-requires g c =
     let board = c.in_ok-logs.settled in
     let run = c.in_ok-logs.ensures in
     let merged = subst (λ (l : List LogModel). IsMergeOf plan l (entries_at board.books) c.in_ok-merging.merging) c.deref.ensures.value c.in_ok-merging.ensures in
-    (board, run_of_board plan c.in_ok-logs.logs.items board c.in_ok-merging.merging run.plan run.logs run.aheads run.board run.opened run.done merged)
+    record { run = (board, run_of_board plan c.in_ok-logs.logs.items board c.in_ok-merging.merging run.plan run.logs run.aheads run.board run.opened run.done merged) }
