@@ -124,8 +124,7 @@ impl<'a> HostedRun<'a> {
         let (Some(parts), Some(rest)) = (self.parts.next(), self.rest.take()) else {
             unreachable!()
         };
-        let CoreParts { machine, mut log } = parts;
-        log.prefault();
+        let CoreParts { machine, log } = parts;
         let (seat, mut rest) = self.board.split(rest, machine.core());
         self.handed += 1;
         open_at_last(&self.board, &mut rest, self.handed == self.plan.cores());

@@ -65,7 +65,7 @@ invariant_of-result c =
     record {
       seat = c.split-seat.result.0;
       has = refl;
-      keeps = subst (λ b. IsAtWork b m.plan m.core m c.prefault.new.self c.split-seat.result.0) board (subst (λ l. IsAtWork c.self.inside.board.value m.plan m.core m l c.split-seat.result.0) (sym c.prefault.ensures) work);
+      keeps = subst (λ b. IsAtWork b m.plan m.core m c.in-Some-Some.parts.log c.split-seat.result.0) board work;
     }
 
 pub returns-clause-next : goal.returns-clause-next
@@ -73,4 +73,4 @@ returns-clause-next c =
     let i = c.self.invariant in
     let step = c.in-Some-Some.ensures.cases in
     let parts = first_parts c.self.inside.plan.now c.self.inside.handed (into_iter_len c.self.inside.parts) (into_iter_items c.self.inside.parts) _ c.in-Some-Some.parts i.parts step.0 (omega (arith, step.1)) in
-    core_as _ _ _ _ _ _ _ _ _ (parts.plan_is ∙ ap (λ (r : HostedRunModel). r.plan) c.self.view_is) (parts.core ∙ ap (λ (r : HostedRunModel). r.handed) c.self.view_is) c.requires.board (ap (λ (l : LogModel). l.turns) (c.prefault.ensures ∙ parts.log))
+    core_as _ _ _ _ _ _ _ _ _ (parts.plan_is ∙ ap (λ (r : HostedRunModel). r.plan) c.self.view_is) (parts.core ∙ ap (λ (r : HostedRunModel). r.handed) c.self.view_is) c.requires.board (ap (λ (l : LogModel). l.turns) parts.log)
