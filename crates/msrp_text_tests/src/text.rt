@@ -249,32 +249,6 @@ fn foreseen_lines_are_met_whole(rt: HostRuntime) -> Result<(), Fail> {
     Ok(())
 }
 
-// A text, some lines, whether they are met after the first record, and the records that are left.
-const AT_ONCE: [(&[u8], &[u8], bool, &[u8]); 8] = [
-    (b"1\nab,c\nd\ne", b"ab,c\nd\n", true, b"e|/"),
-    (b"1\nab,c\n", b"ab,c\n", true, b""),
-    (b"1\nab,c\nd\ne", b"ab,c\nd", false, b"ab|c|/d|/e|/"),
-    (b"1\nab,c\nd\ne", b"", false, b"ab|c|/d|/e|/"),
-    (b"1\nab,c\nd", b"ab,c\nd\n", false, b"ab|c|/d|/"),
-    (b"1\nab,c\r\nd\n", b"ab,c\nd\n", false, b"ab|c|/d|/"),
-    (b"1\nab,c\ne\n", b"ab,c\nd\n", false, b"ab|c|/e|/"),
-    (b"\"1\"\nab,c\nd\n", b"ab,c\nd\n", false, b"ab|c|/d|/"),
-];
-
-#[test]
-fn lines_are_met_at_once(rt: HostRuntime) -> Result<(), Fail> {
-    for (text, lines, met, told) in AT_ONCE {
-        for size in [1usize, 3, 100] {
-            let mut records = RecordReader::new(rt.alloc(), Pieces { text, size });
-            let mut row = ByteRecord::new(rt.alloc());
-            assert!(rt; records.read(&mut row) == Ok(true));
-            assert_eq!(rt; records.meets_lines(lines), met);
-            assert!(rt; records_told(rt.alloc(), &mut records)?.as_slice() == told);
-        }
-    }
-    Ok(())
-}
-
 // A text, and its lines in two parts, each with a line feed.
 const LINES: (&[u8], [(&[u8], &[u8]); 6]) = (
     b"1,a\n2,bc\r\n3,d\n4,e\n5,f\r\n6,\n",
