@@ -1,0 +1,113 @@
+"""What would fail without the functions of a promise: the edits of their code, the tests and programs that call them, and worked examples."""
+import re
+from pathlib import Path
+
+from .crates import LINES, TOP, is_program, is_static, text_of
+from .edits import MORE, edits_of
+
+CASE = re.compile(r"^(\.ci/\w+|docs/\S+?)(?:: (.*))?$")
+FEW = 6  # a definition that more laws and examples cite says little of each
+README = "README"
+
+
+class Edit:
+    """An edit, with the functions that it changes; its file where it changes none."""
+
+    def __init__(self, crate, path, names):
+        self.folder, self.name = "/".join(Path(path).parts[-3:-1]), Path(path).stem
+        self.functions, self.files = set(), set()
+        for line in text_of(path).splitlines():
+            if line.startswith("file: "):
+                file = names.file_of[crate, line[6:].strip()]
+            elif line.startswith("old: "):
+                inside = {it for it in file.functions if line[5:] in it.text}
+                self.functions |= inside
+                self.files |= set() if inside else {(crate, file.file)}
+
+
+class Uses:
+    def __init__(self, names, found):
+        self.names, self.kept = names, {}
+        self.promised = {it for promise in found for it in promise.functions}
+        self.numbers = {it.number: set(it.functions) for it in found if not it.section.startswith(README)}
+        self.edits = [Edit(crate, path, names) for crate in LINES for folder in ("must-fail", MORE) for path in edits_of(crate, folder)]
+        for edit in self.unreached(found):
+            edit.files |= {(it.crate, it.file) for it in edit.functions}
+        self.tests = [(test, self.called_by(test)) for test in names.all if test.is_test]
+        self.programs = {name: {called for it in names.all if it.crate == name for called in (it, *names.calls.of(it))} for name in LINES if is_program(name)}
+        self.covered = {name: list(cases(name)) for name in LINES}
+        self.laws = [(it, self.words_of(it)) for it in names.all if it.is_law]
+
+    def called_by(self, test):
+        """The functions that a test calls, by itself or by functions of its file."""
+        helpers = [test, *self.names.calls.reached([test], lambda it: (it.crate, it.file) == (test.crate, test.file))]
+        return {called for helper in helpers for called in self.names.calls.of(helper)}
+
+    def inside(self, promise):
+        """The code of a promise: its functions, what makes values of their types, and what these call in their crates. No other promise
+        names that."""
+        if promise.number not in self.kept:
+            crates, types = ({key(it) for it in promise.functions} for key in (lambda it: it.crate, lambda it: (it.crate, it.owner)))
+            makers = {it for it in self.names.all if it.makes_its_type() and (it.crate, it.owner) in types} - self.promised
+            start = {*promise.functions, *makers}
+            self.kept[promise.number] = start | self.names.calls.reached(start, lambda it: it.crate in crates and it not in self.promised)
+        return self.kept[promise.number]
+
+    def others_of(self, promise):
+        """The numbers of other promises: of those on the same functions for a line of README, else of those on functions that are called."""
+        called = {called for it in self.inside(promise) for called in self.names.calls.of(it)} - set(promise.functions)
+        wanted = set(promise.functions) if promise.section.startswith(README) else called
+        return [number for number, functions in self.numbers.items() if functions & wanted and number != promise.number]
+
+    def edits_of(self, promise):
+        files = {(it.crate, it.file) for it in promise.functions}
+        return [edit for edit in self.edits if edit.functions & self.inside(promise) or edit.files & files]
+
+    def unreached(self, found):
+        """The edits of no promise."""
+        reached = {edit for promise in found for edit in self.edits_of(promise)}
+        return [edit for edit in self.edits if edit not in reached]
+
+    def tests_of(self, promise):
+        """The unit tests that call a function; the scripts that call a function for C; the cases of covered.txt that read a text."""
+        found = [(test.crate, test.name) for test, called in self.tests if called & set(promise.functions)]
+        scripts = [path for path in sorted(Path(TOP, ".ci").iterdir()) if path.is_file()]
+        for it in (it for it in promise.functions if is_static(it.crate)):
+            found += [(f".ci/{path.name}", it.name) for path in scripts if re.search(rf"\b{it.name}\(", text_of(path))]
+        for it in sorted(self.inside(promise), key=lambda it: (it.crate, it.file, it.name)):
+            found += [case for case, literal in self.covered[it.crate] if literal in it.literals]
+        return list(dict.fromkeys(found))
+
+    def programs_of(self, promise):
+        return [f"`{name}`" for name, called in self.programs.items() if called & set(promise.functions)]
+
+    def scripts(self):
+        """The scripts of the gate that run each program."""
+        scripts = sorted(set(re.findall(r"\.ci/(\w+)", text_of(f"{TOP}/test"))))
+        return {name: [it for it in scripts if re.search(rf"[/$]{name}\b(?![._])", text_of(f"{TOP}/.ci/{it}"))] for name in self.programs}
+
+    def examples_of(self, promise):
+        """For a law the worked runs that cite its definitions; only those that few cite, if there are such."""
+        rare, every = [], []
+        if all(it.is_law for it in promise.functions):
+            for item in sorted(self.names.definitions(promise)):
+                citing = [it for it, words in self.laws if item in words and it not in promise.functions]
+                worked = [it for it, words in self.laws if it in citing and any("Examples" in module[1] for module, _ in words)]
+                every += worked
+                rare += worked if len(citing) <= FEW else []
+        return list(dict.fromkeys(rare or every))
+
+    def words_of(self, it):
+        """The definitions that the clauses of a law cite."""
+        named = self.names.file_of[it.crate, it.file].names
+        return {self.names.passed.get(named[word], named[word]) for _, words in it.clauses for word in words if word in named}
+
+
+def cases(name):
+    """The cases of a crate's covered.txt, each as its script and name, with a literal."""
+    case = None
+    for line in text_of(f"{TOP}/crates/{name}/covered.txt").splitlines():
+        if line.startswith("  ") and case:
+            yield (case.group(1), case.group(2) or "whole"), line.strip()[1:-1]
+        elif line and line[0] not in "# ":
+            case = CASE.match(line)
