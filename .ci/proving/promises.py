@@ -13,7 +13,7 @@ FIELDS = re.compile(r"\bfields? ((?:`\w+`(?:, | and )?)+)")
 FIELD = re.compile(r"^  (?:pub )?(\w+) :", re.M)
 DEFINED = re.compile(r"^(?:unfoldable |abbrev |pub |record |data )*([^\s:(){}]+)(?= ?[:({])", re.M)
 TYPE = re.compile(r"^ *pub(?:\([\w: ]+\))? (?:struct|enum|trait) (\w+)", re.M)
-README = "README"
+UNSTATED = (None, "Model", "Drop", "Display", "Debug")  # traits whose functions have no clauses of ours
 
 
 class Names:
@@ -23,10 +23,10 @@ class Names:
         self.files = sources()
         self.calls = Calls(self.files)
         self.all = [it for file in self.files for it in file.functions]
-        self.file_of = {(it.crate, it.file): it for it in self.files}
+        self.file_of = {it.place(): it for it in self.files}
         self.types = {name for file in self.files for name in TYPE.findall(file.text)}
         self.passed = dict(passed_on())
-        specs = [(path, text_of(path)) for path in Path(TOP).glob("crates/*/specs/**/*.antt")]
+        specs = [(path, text_of(path)) for path in sorted(Path(TOP).glob("crates/*/specs/**/*.antt"))]
         self.fields = {name for _, text in specs for name in FIELD.findall(text)}
         self.specs, self.bodies = {}, {}
         for path, text in specs:
@@ -39,37 +39,40 @@ class Names:
     def holds(self, word, field, depth=2):
         """Whether a definition is a record with this field, or names one in turn."""
         body = self.bodies.get(word, "") if word[0].isupper() else ""
-        others = set(re.findall(r"\b[A-Z]\w+", body)) - {word}
-        return bool(re.search(rf"^  (?:pub )?{field} :", body, re.M)) or depth > 0 and any(self.holds(it, field, depth - 1) for it in others)
+        others = set(re.findall(r"\b[A-Z]\w+", body)) - {word} if depth else ()
+        return field in FIELD.findall(body) or any(self.holds(it, field, depth - 1) for it in others)
 
     def contract(self, function):
         """The clauses of a function; of one of a trait those of the trait."""
-        same = [it for it in self.calls.named[function.name] if it.owner == function.trait] if function.trait and not function.clauses else []
-        return same[0].clauses if same else function.clauses
+        same = [it.clauses for it in self.calls.named[function.name] if function.trait and it.owner == function.trait]
+        return function.clauses or next(iter(same), [])
 
     def definitions(self, promise):
         """The definitions of our crates that the clauses of a promise name, each as its module and name."""
-        found = {self.specs[name] for name in [*promise.named, *promise.invariants] if name in self.specs}
-        for it in promise.functions:
-            names = self.file_of[it.crate, it.file].names
-            words = {word for _, words in promise.chosen(self, it) for word in words}
-            for module, name in (names[word] for word in words if word in names):
-                module, name = self.passed.get((module, name), (module, name))
-                if module[0] in LINES and ".declared." not in f".{module[1]}." and not name.endswith("Model"):
-                    found.add((module, name))
-        return found
+        found = {self.specs[name] for name in promise.named if name in self.specs}
+        stated = [(it, promise.chosen(self, it)) for it in promise.functions]
+        for it, clauses in [*stated, *((file, file.invariants[name]) for file, name in promise.invariants)]:
+            found |= {item for _, words in clauses for item in self.cited(it, words)}
+        return {item for item in found if not item[1].endswith("Model")}
+
+    def cited(self, it, words):
+        """The definitions of our crates that these words in the file of a function name. Types of the code are none."""
+        names = self.file_of[it.place()].names
+        found = {self.passed.get(names[word], names[word]) for word in words if word in names}
+        return {item for item in found if item[0][0] in LINES and "declared" not in item[0][1].split(".")}
 
     def fitting(self, parts, crates):
         """The functions of a path's name: each part before it is the crate, the module or the type."""
-        fits = [it for it in self.calls.named.get(parts[-1], []) if all(part in (it.crate, it.owner, it.trait, *it.module) for part in parts[:-1]) and not it.is_test]
-        near = [it for it in fits if it.crate in crates and (it.owner is None or len(parts) > 1)]
+        same = [it for it in self.calls.named.get(parts[-1], []) if it.crate in crates and (it.owner is None or len(parts) > 1)]
+        near = [it for it in same if all(part in (it.crate, it.owner, it.trait, *it.module) for part in parts[:-1])]
         return [it for it in near if it.is_public] or near
 
     def members(self, parts, crates):
         """The public functions of a type or trait, or of a module; none where the path names neither."""
         name, before = parts[-1], parts[:-1]
         if name in self.types:
-            found = [it for it in self.all if it.owner == name and not it.trait and (it.is_public or not it.crate.endswith("_tests") and self.is_trait(name, it))]
+            own = [it for it in self.all if it.owner == name]
+            found = [it for it in own if it.is_public or it.trait not in UNSTATED or self.is_trait(name, it)]
         elif name[0].islower():
             found = [it for it in self.all if name in it.module and it.is_public and it.owner is None]
         else:
@@ -77,7 +80,7 @@ class Names:
         return [it for it in found if it.crate in crates and all(part in (it.crate, *it.module) for part in before)]
 
     def is_trait(self, name, function):
-        return f"trait {name}" in self.file_of[function.crate, function.file].text
+        return f"trait {name}" in self.file_of[function.place()].text
 
 
 class Promise:
@@ -86,14 +89,17 @@ class Promise:
     def __init__(self, section, number, text, by, crates):
         self.section, self.number, self.text, self.by, self.crates = section, number, text, by, crates
         self.functions, self.modules, self.named, self.invariants, self.lost = [], {}, [], [], []
-        self.said, self.owners, self.kept = set(), [], set()  # names of clauses; types named so far; functions that are named one by one
+        self.said = set()  # names of clauses
+        self.owners = []  # types named so far
+        self.kept = set()  # functions that are named one by one
 
     def chosen(self, names, function):
-        """The clauses of a function that the column names, by themselves or by fields of records in them; all if it names none."""
+        """The clauses of a function that the column names, or those with a field that it names; all if there are none."""
         clauses = names.contract(function)
         parts = self.said - {name for name, _ in clauses}
         named = [it for it in clauses if it[0] in self.said]
-        return named or [it for it in clauses if any(names.holds(word, part) for word in it[1] for part in parts)] or clauses
+        within = [it for it in clauses if any(names.holds(word, part) for word in it[1] for part in parts)]
+        return named or within or clauses
 
     def add(self, functions, one_by_one=True):
         self.functions = list(dict.fromkeys([*self.functions, *functions]))
@@ -104,10 +110,12 @@ class Promise:
         parts = token.split("::")
         is_type = parts[-1] in names.types
         if is_type and re.search(r"invariants? of $", before):
-            self.invariants += [file.invariants[parts[-1]] for file in names.files if file.crate in self.crates and parts[-1] in file.invariants]
+            files = [file for file in names.files if file.crate in self.crates and file.invariants.get(parts[-1])]
+            self.invariants += [(file, parts[-1]) for file in files]
             return
         if is_type and self.owners and before.endswith("its "):
-            self.add([it for it in names.all if it.owner == self.owners[-1] and it.trait == parts[-1] and it.crate in self.crates])
+            own = [it for it in names.all if it.owner == self.owners[-1] and it.crate in self.crates]
+            self.add([it for it in own if it.trait == parts[-1]])
             return
         found = [] if is_type else self.of_owner(names, parts) or names.fitting(parts, self.crates)
         members = [] if found else names.members(parts, self.crates)
@@ -131,7 +139,7 @@ class Promise:
             self.lost.append(token)
 
     def of_owner(self, names, parts):
-        """A method that is named without its type: of the type that was named last, or of those of the first column."""
+        """A method that is named without its type: of the type named last, or of those of the first column."""
         owners = self.owners[-1:] or [it for it in TOKEN.findall(self.text) if it in names.types]
         return [it for owner in owners for it in names.fitting([owner, *parts], self.crates)] if len(parts) == 1 else []
 
@@ -149,25 +157,27 @@ def resolve(promise, names, last):
     by = promise.by
     for pattern in (IN_BRACKETS, FIELDS):
         said = {name for found in pattern.findall(by) for name in TOKEN.findall(found)}
-        if pattern is IN_BRACKETS:
-            promise.said = said
-        elif any(name not in names.fields for name in said):
-            promise.lost += sorted(said - names.fields)
+        promise.said |= said
+        promise.lost += sorted(said - names.fields) if pattern is FIELDS else []
         by = pattern.sub("", by)
     if re.match(r"the same\b|its fields", promise.by):
-        promise.add(last.functions)
+        promise.add([it for it in last.functions if promise.by.startswith("the same") or not it.is_law])
         promise.named += last.named
     if "the same, but" in by:
         out = {it for token, _, _ in tokens(by) for it in names.fitting(token.split("::"), promise.crates)}
         promise.functions = [it for it in promise.functions if it not in out]
     elif by.startswith("each engine"):
-        promise.add([it for it in names.all if it.crate in promise.crates and it.is_public and "answer" in dict(it.clauses)])
+        public = [it for it in names.all if it.crate in promise.crates and it.is_public]
+        promise.add([it for it in public if "answer" in dict(it.clauses)])
     else:
         for token, before, after in tokens(by):
             for owner in promise.owners[:] if token and before.endswith("each by ") else [None]:
                 promise.take(names, f"{owner}::{token}" if owner else token, before, after)
     if promise.said:
-        promise.functions = [it for it in promise.functions if it in promise.kept or promise.said & dict(names.contract(it)).keys()]
+        named = [it for it in promise.functions if promise.said & dict(names.contract(it)).keys()]
+        promise.functions = [it for it in promise.functions if it in promise.kept or it in named]
+    if not (promise.functions or promise.invariants or promise.lost):
+        promise.lost.append("what it names")
 
 
 def of_readme():
@@ -179,16 +189,16 @@ def of_readme():
 
 def promises(names):
     """All promises, in the order of their documents."""
-    count, last = 0, None
+    last = None
     page = SECTION.split(text_of(f"{TOP}/docs/PROVED.md"))
     parts = [("README: what is proved", ["msrp_engine"], list(of_readme()))]
     for title, text in zip(page[1::2], page[2::2]):
-        crates = [it for token in TOKEN.findall(title) for it in re.split(r"::", token) if it in LINES]
+        crates = [it for token in TOKEN.findall(title) for it in token.split("::") if it in LINES]
         parts.append((title, crates, [row for row in ROW.findall(text) if row[0] not in ("What", "---")]))
-    for number, (title, crates, rows) in enumerate((it for it in parts if it[2]), 0):
+    for number, (title, crates, rows) in enumerate(it for it in parts if it[2]):
         for count, (text, by) in enumerate(rows, 1):
-            inside = crates or sorted({it for name in TOKEN.findall(by) for it in name.split("::") if it in LINES}) or list(LINES)
-            promise = Promise(title, f"{number}.{count}", text, by, inside)
+            own = sorted({it for name in TOKEN.findall(by) for it in name.split("::") if it in LINES})
+            promise = Promise(title, f"{number}.{count}", text, by, crates or own or list(LINES))
             resolve(promise, names, last)
             last = promise
             yield promise

@@ -1,4 +1,4 @@
-"""What would fail without the functions of a promise: the edits of their code, the tests and programs that call them, and worked examples."""
+"""What would fail without a promise: the edits of its code, the tests and programs that call it, and worked examples."""
 import re
 from pathlib import Path
 
@@ -30,37 +30,46 @@ class Uses:
         self.names, self.kept = names, {}
         self.promised = {it for promise in found for it in promise.functions}
         self.numbers = {it.number: set(it.functions) for it in found if not it.section.startswith(README)}
-        self.edits = [Edit(crate, path, names) for crate in LINES for folder in ("must-fail", MORE) for path in edits_of(crate, folder)]
+        paths = [(crate, path) for crate in LINES for folder in ("must-fail", MORE) for path in edits_of(crate, folder)]
+        self.edits = [Edit(crate, path, names) for crate, path in paths]
         for edit in self.unreached(found):
-            edit.files |= {(it.crate, it.file) for it in edit.functions}
+            edit.files |= {it.place() for it in edit.functions}
         self.tests = [(test, self.called_by(test)) for test in names.all if test.is_test]
-        self.programs = {name: {called for it in names.all if it.crate == name for called in (it, *names.calls.of(it))} for name in LINES if is_program(name)}
+        self.programs = {name: self.run_by(name) for name in LINES if is_program(name)}
         self.covered = {name: list(cases(name)) for name in LINES}
-        self.laws = [(it, self.words_of(it)) for it in names.all if it.is_law]
+        self.laws = [(it, {item for _, words in it.clauses for item in names.cited(it, words)}) for it in names.all if it.is_law]
 
     def called_by(self, test):
         """The functions that a test calls, by itself or by functions of its file."""
-        helpers = [test, *self.names.calls.reached([test], lambda it: (it.crate, it.file) == (test.crate, test.file))]
+        helpers = [test, *self.names.calls.reached([test], lambda it: it.place() == test.place())]
         return {called for helper in helpers for called in self.names.calls.of(helper)}
 
+    def run_by(self, program):
+        """The functions of a program, and those that they call."""
+        own = [it for it in self.names.all if it.crate == program]
+        return {*own, *(called for it in own for called in self.names.calls.of(it))}
+
     def inside(self, promise):
-        """The code of a promise: its functions, what makes values of their types, and what these call in their crates. No other promise
-        names that."""
+        """The code of a promise: its functions, what makes values of their types, and what these call in their crates, but
+        nothing that another promise names."""
         if promise.number not in self.kept:
-            crates, types = ({key(it) for it in promise.functions} for key in (lambda it: it.crate, lambda it: (it.crate, it.owner)))
-            makers = {it for it in self.names.all if it.makes_its_type() and (it.crate, it.owner) in types} - self.promised
-            start = {*promise.functions, *makers}
-            self.kept[promise.number] = start | self.names.calls.reached(start, lambda it: it.crate in crates and it not in self.promised)
+            types = {(it.crate, it.owner) for it in promise.functions}
+            crates = {crate for crate, _ in types}
+            makers = [it for it in self.names.all if (it.crate, it.owner) in types and it.makes_its_type()]
+            start = {*promise.functions, *makers} - (self.promised - set(promise.functions))
+            others = self.names.calls.reached(start, lambda it: it.crate in crates and it not in self.promised)
+            self.kept[promise.number] = start | others
         return self.kept[promise.number]
 
     def others_of(self, promise):
-        """The numbers of other promises: of those on the same functions for a line of README, else of those on functions that are called."""
-        called = {called for it in self.inside(promise) for called in self.names.calls.of(it)} - set(promise.functions)
-        wanted = set(promise.functions) if promise.section.startswith(README) else called
+        """The numbers of other promises on functions that this code calls; for a line of README, on its functions."""
+        wanted = set(promise.functions)
+        if not promise.section.startswith(README):
+            wanted = {called for it in self.inside(promise) for called in self.names.calls.of(it)} - wanted
         return [number for number, functions in self.numbers.items() if functions & wanted and number != promise.number]
 
     def edits_of(self, promise):
-        files = {(it.crate, it.file) for it in promise.functions}
+        files = {it.place() for it in promise.functions}
         return [edit for edit in self.edits if edit.functions & self.inside(promise) or edit.files & files]
 
     def unreached(self, found):
@@ -69,11 +78,10 @@ class Uses:
         return [edit for edit in self.edits if edit not in reached]
 
     def tests_of(self, promise):
-        """The unit tests that call a function; the scripts that call a function for C; the cases of covered.txt that read a text."""
+        """The unit tests that call a function, the scripts that call one for C, the cases of covered.txt that read a text."""
         found = [(test.crate, test.name) for test, called in self.tests if called & set(promise.functions)]
-        scripts = [path for path in sorted(Path(TOP, ".ci").iterdir()) if path.is_file()]
         for it in (it for it in promise.functions if is_static(it.crate)):
-            found += [(f".ci/{path.name}", it.name) for path in scripts if re.search(rf"\b{it.name}\(", text_of(path))]
+            found += [(f".ci/{name}", it.name) for name in gate() if re.search(rf"\b{it.name}\(", text_of(f"{TOP}/.ci/{name}"))]
         for it in sorted(self.inside(promise), key=lambda it: (it.crate, it.file, it.name)):
             found += [case for case, literal in self.covered[it.crate] if literal in it.literals]
         return list(dict.fromkeys(found))
@@ -83,8 +91,8 @@ class Uses:
 
     def scripts(self):
         """The scripts of the gate that run each program."""
-        scripts = sorted(set(re.findall(r"\.ci/(\w+)", text_of(f"{TOP}/test"))))
-        return {name: [it for it in scripts if re.search(rf"[/$]{name}\b(?![._])", text_of(f"{TOP}/.ci/{it}"))] for name in self.programs}
+        texts = {name: text_of(f"{TOP}/.ci/{name}") for name in gate()}
+        return {program: [name for name, text in texts.items() if re.search(rf"[/$]{program}\b(?![._])", text)] for program in self.programs}
 
     def examples_of(self, promise):
         """For a law the worked runs that cite its definitions; only those that few cite, if there are such."""
@@ -92,15 +100,15 @@ class Uses:
         if all(it.is_law for it in promise.functions):
             for item in sorted(self.names.definitions(promise)):
                 citing = [it for it, words in self.laws if item in words and it not in promise.functions]
-                worked = [it for it, words in self.laws if it in citing and any("Examples" in module[1] for module, _ in words)]
+                worked = [it for it, words in self.laws if it in citing and any("Examples" in at for (_, at), _ in words)]
                 every += worked
                 rare += worked if len(citing) <= FEW else []
         return list(dict.fromkeys(rare or every))
 
-    def words_of(self, it):
-        """The definitions that the clauses of a law cite."""
-        named = self.names.file_of[it.crate, it.file].names
-        return {self.names.passed.get(named[word], named[word]) for _, words in it.clauses for word in words if word in named}
+
+def gate():
+    """The scripts of the gate."""
+    return sorted(set(re.findall(r"\.ci/(\w+)", text_of(f"{TOP}/test"))))
 
 
 def cases(name):
