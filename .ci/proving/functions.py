@@ -119,8 +119,8 @@ def passed_on():
 
 
 class Calls:
-    """Which functions a function may call, by the names before its brackets and the types that its file names. If it names a
-    type of its crate, it may call all that the type implements of traits."""
+    """Which functions a function may call, by the names before its brackets and the types that its file names. If it
+    names a type of its crate, it may call all that the type implements of traits."""
 
     def __init__(self, files):
         self.words = {it.place(): set(WORD.findall(it.text)) for it in files}

@@ -63,8 +63,9 @@ class Names:
 
     def fitting(self, parts, crates):
         """The functions of a path's name: each part before it is the crate, the module or the type."""
-        same = [it for it in self.calls.named.get(parts[-1], []) if it.crate in crates and (it.owner is None or len(parts) > 1)]
+        same = [it for it in self.calls.named.get(parts[-1], []) if it.crate in crates]
         near = [it for it in same if all(part in (it.crate, it.owner, it.trait, *it.module) for part in parts[:-1])]
+        near = near if len(parts) > 1 else [it for it in near if it.owner is None]
         return [it for it in near if it.is_public] or near
 
     def members(self, parts, crates):
@@ -94,12 +95,15 @@ class Promise:
         self.kept = set()  # functions that are named one by one
 
     def chosen(self, names, function):
-        """The clauses of a function that the column names, or those with a field that it names; all if there are none."""
+        """The clauses of a function that the column names, or those with a field that it names; or else all."""
         clauses = names.contract(function)
         parts = self.said - {name for name, _ in clauses}
         named = [it for it in clauses if it[0] in self.said]
         within = [it for it in clauses if any(names.holds(word, part) for word in it[1] for part in parts)]
         return named or within or clauses
+
+    def is_law(self):
+        return all(it.is_law for it in self.functions)
 
     def add(self, functions, one_by_one=True):
         self.functions = list(dict.fromkeys([*self.functions, *functions]))

@@ -1,4 +1,4 @@
-"""What would fail without a promise: the edits of its code, the tests and programs that call it, and worked examples."""
+"""What would fail without a promise: the edits of its code, the tests and programs that call it, worked examples."""
 import re
 from pathlib import Path
 
@@ -8,6 +8,7 @@ from .edits import MORE, edits_of
 CASE = re.compile(r"^(\.ci/\w+|docs/\S+?)(?:: (.*))?$")
 FEW = 6  # a definition that more laws and examples cite says little of each
 README = "README"
+OF_SOURCES = {"build", "more", "steps", "traceability", "trusted", "unused"}  # scripts of the gate that run no program
 
 
 class Edit:
@@ -36,8 +37,11 @@ class Uses:
             edit.files |= {it.place() for it in edit.functions}
         self.tests = [(test, self.called_by(test)) for test in names.all if test.is_test]
         self.programs = {name: self.run_by(name) for name in LINES if is_program(name)}
+        scripts = sorted(set(re.findall(r"\.ci/(\w+)", text_of(f"{TOP}/test"))) - OF_SOURCES)
+        self.gate = {script: text_of(f"{TOP}/.ci/{script}") for script in scripts}
         self.covered = {name: list(cases(name)) for name in LINES}
-        self.laws = [(it, {item for _, words in it.clauses for item in names.cited(it, words)}) for it in names.all if it.is_law]
+        laws = [it for it in names.all if it.is_law]
+        self.laws = [(it, set().union(*(names.cited(it, words) for _, words in it.clauses))) for it in laws]
 
     def called_by(self, test):
         """The functions that a test calls, by itself or by functions of its file."""
@@ -50,8 +54,8 @@ class Uses:
         return {*own, *(called for it in own for called in self.names.calls.of(it))}
 
     def inside(self, promise):
-        """The code of a promise: its functions, what makes values of their types, and what these call in their crates, but
-        nothing that another promise names."""
+        """The code of a promise: its functions, what makes values of their types, and what these call in their crates,
+        but nothing that another promise names."""
         if promise.number not in self.kept:
             types = {(it.crate, it.owner) for it in promise.functions}
             crates = {crate for crate, _ in types}
@@ -78,10 +82,11 @@ class Uses:
         return [edit for edit in self.edits if edit not in reached]
 
     def tests_of(self, promise):
-        """The unit tests that call a function, the scripts that call one for C, the cases of covered.txt that read a text."""
+        """The unit tests that call a function, scripts that call one for C, cases of covered.txt that read a text."""
         found = [(test.crate, test.name) for test, called in self.tests if called & set(promise.functions)]
         for it in (it for it in promise.functions if is_static(it.crate)):
-            found += [(f".ci/{name}", it.name) for name in gate() if re.search(rf"\b{it.name}\(", text_of(f"{TOP}/.ci/{name}"))]
+            call = re.compile(rf"\b{it.name}\(")
+            found += [(f".ci/{script}", it.name) for script, text in self.gate.items() if call.search(text)]
         for it in sorted(self.inside(promise), key=lambda it: (it.crate, it.file, it.name)):
             found += [case for case, literal in self.covered[it.crate] if literal in it.literals]
         return list(dict.fromkeys(found))
@@ -91,24 +96,19 @@ class Uses:
 
     def scripts(self):
         """The scripts of the gate that run each program."""
-        texts = {name: text_of(f"{TOP}/.ci/{name}") for name in gate()}
-        return {program: [name for name, text in texts.items() if re.search(rf"[/$]{program}\b(?![._])", text)] for program in self.programs}
+        def runs(text, program):
+            return re.search(rf"[/$\"]{program}\b(?![._])", text)
+        return {program: [it for it, text in self.gate.items() if runs(text, program)] for program in self.programs}
 
     def examples_of(self, promise):
         """For a law the worked runs that cite its definitions; only those that few cite, if there are such."""
         rare, every = [], []
-        if all(it.is_law for it in promise.functions):
-            for item in sorted(self.names.definitions(promise)):
-                citing = [it for it, words in self.laws if item in words and it not in promise.functions]
-                worked = [it for it, words in self.laws if it in citing and any("Examples" in at for (_, at), _ in words)]
-                every += worked
-                rare += worked if len(citing) <= FEW else []
+        for item in sorted(self.names.definitions(promise)) if promise.is_law() else ():
+            citing = [(it, words) for it, words in self.laws if item in words and it not in promise.functions]
+            worked = [it for it, words in citing if any("Examples" in at for (_, at), _ in words)]
+            every += worked
+            rare += worked if len(citing) <= FEW else []
         return list(dict.fromkeys(rare or every))
-
-
-def gate():
-    """The scripts of the gate."""
-    return sorted(set(re.findall(r"\.ci/(\w+)", text_of(f"{TOP}/test"))))
 
 
 def cases(name):
