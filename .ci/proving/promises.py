@@ -13,6 +13,7 @@ FIELDS = re.compile(r"\bfields? ((?:`\w+`(?:, | and )?)+)")
 FIELD = re.compile(r"^  (?:pub )?(\w+) :", re.M)
 DEFINED = re.compile(r"^(?:unfoldable |abbrev |pub |record |data )*([^\s:(){}]+)(?= ?[:({])", re.M)
 TYPE = re.compile(r"^ *pub(?:\([\w: ]+\))? (?:struct|enum|trait) (\w+)", re.M)
+ENGINE = "_engine"
 UNSTATED = (None, "Model", "Drop", "Display", "Debug")  # traits whose functions have no clauses of ours
 
 
@@ -184,18 +185,22 @@ def resolve(promise, names, last):
         promise.lost.append("what it names")
 
 
-def of_readme():
-    """The rows of README on what is proved: the commands that they name are functions of the engines."""
+def of_readme(names):
+    """The rows of README on what is proved: for a command the engine that does it, for a program all that it calls."""
     for kind, text in ROW.findall(text_of(f"{TOP}/README.md")):
         if kind == "proved":
-            yield text, ", ".join(f"`{name}_text`" for name in TOKEN.findall(text) if name.islower() and name != "good")
+            words = TOKEN.findall(text)
+            commands = [f"{word}_text" for word in words if f"{word}_text" in names.calls.named]
+            called = {it for own in names.all if own.crate in words for it in names.calls.of(own)}
+            functions = sorted(it.name for it in called if it.crate.endswith(ENGINE))
+            yield text, ", ".join(f"`{name}`" for name in [*commands, *functions])
 
 
 def promises(names):
     """All promises, in the order of their documents."""
     last = None
     page = SECTION.split(text_of(f"{TOP}/docs/PROVED.md"))
-    parts = [("README: what is proved", ["msrp_engine"], list(of_readme()))]
+    parts = [("README: what is proved", [it for it in LINES if it.endswith(ENGINE)], list(of_readme(names)))]
     for title, text in zip(page[1::2], page[2::2]):
         crates = [it for token in TOKEN.findall(title) for it in token.split("::") if it in LINES]
         parts.append((title, crates, [row for row in ROW.findall(text) if row[0] not in ("What", "---")]))
