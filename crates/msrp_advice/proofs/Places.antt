@@ -1,10 +1,12 @@
 -- Records by their places, and the last place that passes a test.
-use Rattle.std.proofs.Common.{◌≡◌, ◌∙◌, ◌+◌, ◌<◌, ◌||◌, if◌then◌else◌}
-use Rattle.msrp_plan.proofs.Common.{ℕ, Bool, true, false, List, [], None, Some, ap, sym, refl, add-one, drop, length, map, slice_index_or, list_any, drop_more, get_or-map}
+use Rattle.std.proofs.Common.{◌≡◌, ◌∙◌, ◌+◌, ◌<◌, if◌then◌else◌, ◌&&◌}
+use Rattle.msrp_plan.proofs.Common.{ℕ, Bool, true, false, List, [], None, Some, ap, sym, refl, add-one, drop, length, map, slice_index_or, list_any, get_or-map, any_map, codes, not}
 use Rattle.csv.specs.Records.{Row, fields_of}
 use Rattle.msrp_text.specs.Reading.{record_at}
 use Rattle.msrp_advice.specs.Earlier.{last_place}
 use Rattle.msrp_advice.specs.Nested.{core_after, core_at}
+use Rattle.std.proofs.lemmas.List.{drop-map}
+use Rattle.msrp_advice.specs.Records.{is_op, is_op_on, is_open}
 
 -- a record by its place
 pub record-is : (before : List Row) (i : ℕ) (row : Row) → i < length before → row ≡ slice_index_or before i row → fields_of row ≡ record_at (map fields_of before) i
@@ -26,15 +28,15 @@ last-is test n e = sym (last-more test n ∙ ap (λ b. if b then Some n else las
 pub last-kept : (test : ℕ → Bool) (n : ℕ) → test n ≡ false → last_place test n ≡ last_place test (n + 1)
 last-kept test n e = sym (last-more test n ∙ ap (λ b. if b then Some n else last_place test n) e)
 
--- one of those from a place on passes a test: the first of them, or one behind it
-any-from : {X : Type 0} (p : X → Bool) (xs : List X) (i : ℕ) (d : X) → i < length xs → list_any p (drop i xs) ≡ (p (slice_index_or xs i d) || list_any p (drop (i + 1) xs))
-any-from p xs i d within = ap (list_any p) (drop_more xs i d within)
-
-pub any-hit : {X : Type 0} (p : X → Bool) (xs : List X) (i : ℕ) (d : X) → i < length xs → p (slice_index_or xs i d) ≡ true → list_any p (drop i xs) ≡ true
-any-hit p xs i d within e = any-from p xs i d within ∙ ap (λ b. b || list_any p (drop (i + 1) xs)) e
-
-pub any-missed : {X : Type 0} (p : X → Bool) (xs : List X) (i : ℕ) (d : X) → i < length xs → p (slice_index_or xs i d) ≡ false → list_any p (drop i xs) ≡ list_any p (drop (i + 1) xs)
-any-missed p xs i d within e = any-from p xs i d within ∙ ap (λ b. b || list_any p (drop (i + 1) xs)) e
+-- a lock at a place is open if no later record unlocks its resource
+pub open-is : (before : List Row) (i : ℕ) (lock : Row) (undone : Bool) → i < length before → lock ≡ slice_index_or before i lock → true ≡ is_op (codes "lock") (fields_of lock)
+    → undone ≡ list_any (λ row. is_op_on (codes "unlock") (fields_of lock) (fields_of row)) (drop (i + 1) before) → not undone ≡ is_open (map fields_of before) i
+open-is before i lock undone within is locks says =
+    let fields = record-is before i lock within is in
+    let mapped = sym (any_map fields_of (is_op_on (codes "unlock") (fields_of lock)) (drop (i + 1) before)) in
+    let any = says ∙ (mapped ∙ ap (list_any (is_op_on (codes "unlock") (fields_of lock))) (sym (drop-map fields_of (i + 1) before))) in
+    ap not any ∙ (ap (λ b. b && not (list_any (is_op_on (codes "unlock") (fields_of lock)) (drop (i + 1) (map fields_of before)))) locks
+    ∙ ap (λ f. is_op (codes "lock") f && not (list_any (is_op_on (codes "unlock") f) (drop (i + 1) (map fields_of before)))) fields)
 
 -- the core of the last task, one record further
 pub core-none : (before : List (List (List ℕ))) → 0 ≡ core_at before 0

@@ -20,10 +20,10 @@ is_same i fields other = has_word other i (name_at fields i)
 abbrev pub declares_same : List (List ℕ) → List (List ℕ) → Bool
 declares_same fields other = ((is_task fields && is_task other) || (has_word fields 0 (codes "resource") && has_word other 0 (codes "resource"))) && is_same 1 fields other
 
--- it unlocks what that one locks
-abbrev pub is_unlock_of : List (List ℕ) → List (List ℕ) → Bool
-is_unlock_of lock fields = is_op (codes "unlock") fields && is_same 2 lock fields
+-- it is an operation of that word on the resource of a lock
+abbrev pub is_op_on : List ℕ → List (List ℕ) → List (List ℕ) → Bool
+is_op_on word lock fields = is_op word fields && is_same 2 lock fields
 
 -- the record at a place is a lock, and no later one unlocks its resource
 abbrev pub is_open : List (List (List ℕ)) → ℕ → Bool
-is_open records i = is_op (codes "lock") (record_at records i) && not (list_any (is_unlock_of (record_at records i)) (drop (i + 1) records))
+is_open records i = is_op (codes "lock") (record_at records i) && not (list_any (is_op_on (codes "unlock") (record_at records i)) (drop (i + 1) records))

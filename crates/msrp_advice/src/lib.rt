@@ -1,11 +1,10 @@
 //! What is wrong with a refused plan, and what is odd in an accepted one, in words.
 //!
-//! [`RefusedPlan`] says why a record is refused, and shows it with the earlier record that the refusal concerns. [`AcceptedPlan`] lists
-//! the [`Warning`]s on a plan. Which record and which warnings these are is proved; their sentences are tested.
+//! [`RefusedPlan`] says why a record is refused, and shows it with the earlier records that the refusal concerns. [`AcceptedPlan`] lists
+//! the [`Warning`]s on a plan. Which records and which warnings these are is proved; their sentences are tested.
 #![tactic(auto)]
 
 mod earlier;
-mod lines;
 mod nested;
 mod reasons;
 mod records;
@@ -15,6 +14,7 @@ mod warnings;
 
 pub use earlier::earlier_record;
 pub use nested::{NestedLocks, nested_locks};
+pub use records::field;
 pub use refused::RefusedPlan;
-pub use shown::{Shown, ShownRecord, WrongField};
+pub use shown::{Count, Shown, ShownRecord, res_name, task_name};
 pub use warnings::{AcceptedPlan, Warning, warnings_of};

@@ -5,14 +5,11 @@ ghost use Rattle.csv.specs.Records.{fields_of};
 ghost use Rattle.msrp_advice.specs.Nested.{AreNested, IsShared};
 ghost use Rattle.msrp_advice.specs.Nested as spec;
 
-use crate::records::{is_op, is_open, is_same, is_task, number_told};
+use crate::records::{is_op, is_op_on, is_open, is_same, is_task, number_told};
 use csv::ByteRecord;
 use msrp_plan::limits::{MOST_CORES, MOST_RESOURCES};
 use msrp_text::fields::{has_word, name_at};
-use std::fmt;
-
-// The cores whose tasks lock each resource, in the order in which the resources are declared.
-type Users = [[bool; MOST_CORES as usize]; MOST_RESOURCES];
+use std::fmt::{self, Formatter, Write};
 
 /// Where a task locks a global resource while it holds another, by the places of both locks among the records.
 #[derive(Clone, Copy, Debug, PartialEq, Eq)]
@@ -33,52 +30,32 @@ fn core_after(row: &ByteRecord, core: u32) -> u32
 }
 
 // The core of the last task among the first `n` records.
-fn core_at(before: &[ByteRecord], n: usize) -> u32
-    requires { n ≤ length before.now }
-    ensures { result ≡ spec.core_at (map fields_of before.now) n }
+fn core_at(records: &[ByteRecord], n: usize) -> u32
+    requires { n ≤ length records.now }
+    ensures { result ≡ spec.core_at (map fields_of records.now) n }
 {
     let mut core = 0;
     for k in 0..n {
-        core = core_after(&before[k], core);
+        core = core_after(&records[k], core);
     }
     core
 }
 
-// Whether at the other place a task of another core locks the resource that is locked at a place.
-fn is_elsewhere(records: &[ByteRecord], lock: usize, other: usize) -> bool
-    requires lock { lock < length records.now }
-    requires other { other < length records.now }
-    ensures { result ≡ spec.is_elsewhere (map fields_of records.now) lock other }
-{
-    is_op(b"lock", &records[other])
-        && is_same(2, &records[lock], &records[other])
-        && core_at(records, other) != core_at(records, lock)
-}
-
-// A place where a task of another core locks the resource that is locked at a place.
-fn elsewhere(records: &[ByteRecord], lock: usize) -> Option<usize>
-    requires { lock < length records.now }
-{
-    let own = core_at(records, lock);
-    let mut core = 0;
-    for (other, row) in records.iter().enumerate() {
-        core = core_after(row, core);
-        if is_op(b"lock", row) && is_same(2, &records[lock], row) && core != own {
-            return Some(other);
-        }
-    }
-    None
-}
-
-// Whether a task of another core locks the resource that is locked at a place, as far as that is found.
+// Whether a task of another core locks the resource that is locked at a place.
 fn is_shared(records: &[ByteRecord], lock: usize) -> bool
     requires { lock < length records.now }
     ensures { result ≡ true → IsShared (map fields_of records.now) lock }
 {
-    match elsewhere(records, lock) {
-        Some(other) if other < records.len() => is_elsewhere(records, lock, other),
-        _ => false,
+    let (locked, own) = (&records[lock], core_at(records, lock));
+    let mut core = 0;
+    for k in 0..records.len() {
+        let row = &records[k];
+        if core != own && is_op_on(b"lock", locked, row) {
+            return true;
+        }
+        core = core_after(row, core);
     }
+    false
 }
 
 // Whether both locks are of global resources, and the first is open at the second.
@@ -94,25 +71,15 @@ fn are_nested(records: &[ByteRecord], locks: NestedLocks) -> bool
         && is_shared(records, inner)
 }
 
-// The place of a lock's resource among the declared ones, which begin with the fourth record.
-fn resource_of(records: &[ByteRecord], lock: &ByteRecord) -> usize {
-    let name = name_at(lock, 2).as_bytes();
-    records
-        .iter()
-        .skip(3)
-        .position(|row| has_word(row, 0, b"resource") && has_word(row, 1, name))
-        .unwrap_or(MOST_RESOURCES)
-}
-
-/// The cores whose tasks lock a resource.
+/// The cores whose tasks lock a resource, a bit for each.
 #[derive(Clone, Copy)]
-pub(crate) struct Cores([bool; MOST_CORES as usize]);
+pub(crate) struct Cores(u8);
 
 impl fmt::Display for Cores {
-    fn fmt<W: fmt::Write>(&self, f: &mut fmt::Formatter<W>) -> fmt::Result {
+    fn fmt<W: Write>(&self, f: &mut Formatter<W>) -> fmt::Result {
         let mut separator = "";
-        for (core, is_user) in self.0.iter().enumerate() {
-            if *is_user {
+        for core in 0..MOST_CORES {
+            if self.0 >> core & 1 == 1 {
                 write!(f, "{separator}{core}")?;
                 separator = ", ";
             }
@@ -121,45 +88,49 @@ impl fmt::Display for Cores {
     }
 }
 
-/// The cores whose tasks lock the resource of a lock.
-pub(crate) fn cores_of(records: &[ByteRecord], lock: &ByteRecord) -> Cores {
-    match users_of(records).get(resource_of(records, lock)) {
-        Some(cores) => Cores(*cores),
-        None => Cores([false; MOST_CORES as usize]),
-    }
+// The users of each resource, in the order in which the resources are declared.
+#[derive(Clone, Copy)]
+pub(crate) struct Users([Cores; MOST_RESOURCES]);
+
+// The place of a lock's resource among the declared ones, which begin with the fourth record.
+fn resource_of(records: &[ByteRecord], lock: &ByteRecord) -> usize {
+    let name = name_at(lock, 2).as_bytes();
+    let mut declared = records.iter().skip(3);
+    declared
+        .position(|row| has_word(row, 0, b"resource") && has_word(row, 1, name))
+        .unwrap_or(MOST_RESOURCES)
 }
 
-fn users_of(records: &[ByteRecord]) -> Users {
-    let mut users = [[false; MOST_CORES as usize]; MOST_RESOURCES];
-    let mut core = 0;
-    for row in records {
-        if is_task(row) {
-            core = number_told(row, 2) as usize;
-        } else if is_op(b"lock", row) {
-            if let Some(cores) = users.get_mut(resource_of(records, row)) {
-                if let Some(user) = cores.get_mut(core) {
-                    *user = true;
+impl Users {
+    pub fn among(records: &[ByteRecord]) -> Users {
+        let mut users = [Cores(0); MOST_RESOURCES];
+        let mut core = 0;
+        for row in records {
+            core = core_after(row, core);
+            if is_op(b"lock", row) {
+                if let Some(cores) = users.get_mut(resource_of(records, row)) {
+                    cores.0 |= 1u8.checked_shl(core).unwrap_or(0);
                 }
             }
         }
+        Users(users)
     }
-    users
-}
 
-// Whether tasks of several cores lock the resource of a lock.
-fn is_global(users: &Users, records: &[ByteRecord], lock: &ByteRecord) -> bool {
-    match users.get(resource_of(records, lock)) {
-        Some(cores) => cores.iter().filter(|user| **user).count() > 1,
-        None => false,
+    /// The users of a lock's resource.
+    pub fn of(&self, records: &[ByteRecord], lock: &ByteRecord) -> Cores {
+        match self.0.get(resource_of(records, lock)) {
+            Some(cores) => *cores,
+            None => Cores(0),
+        }
     }
 }
 
 // The first lock of a global resource while a global one is held.
 fn first_nested(records: &[ByteRecord]) -> Option<NestedLocks> {
-    let users = users_of(records);
+    let users = Users::among(records);
     let mut held: Option<(usize, &ByteRecord)> = None;
     for (inner, row) in records.iter().enumerate() {
-        if is_op(b"lock", row) && is_global(&users, records, row) {
+        if is_op(b"lock", row) && users.of(records, row).0.count_ones() > 1 {
             match held {
                 Some((outer, _)) => return Some(NestedLocks { outer, inner }),
                 None => held = Some((inner, row)),

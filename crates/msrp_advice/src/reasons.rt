@@ -3,7 +3,7 @@
 //! A reason is a sentence with holes: `{it}` stands for the field that is wrong, `{task}` for the name of the task that is read, and so on.
 
 use crate::earlier::earlier_record;
-use crate::nested::{cores_of, nested_locks};
+use crate::nested::{Users, nested_locks};
 use crate::records::{busiest_task, field, is_op, is_open, is_task, jobs_of, number_told};
 use crate::refused::RefusedPlan;
 use crate::shown::{Count, Shown};
@@ -11,48 +11,26 @@ use csv::ByteRecord;
 use msrp_plan::PlanFault;
 use msrp_plan::limits::{LONGEST_TIME, MOST_HELD};
 use msrp_text::fields::{has_word, name_at, number_at};
-use std::fmt;
-use std::ops::Range;
+use std::fmt::{self, Formatter, Write};
 
-const BLANK: &str = "field {place} [{it}] begins or ends with a blank; remove it";
+// How a record is written, and of how many fields; the first place of its numbers, and what they are.
+type Form = (&'static str, usize, usize, &'static [&'static str]);
 
-const SPARE_COMMAS: &str =
-    "the record ends with a comma, as spreadsheets write it; remove the commas at the ends of lines";
+const OPERATION: &str = "op,run,UNITS or op,lock,NAME or op,unlock,NAME";
 
-// How a record of a word is written, and of how many fields.
-fn form_of(row: &ByteRecord) -> (&'static str, usize) {
+const PERIODIC: &[&str] = &["core", "period", "relative deadline", "offset"];
+
+const LISTED: &[&str] = &["core", "relative deadline"];
+
+fn form_of(row: &ByteRecord) -> Form {
     match name_at(row, 0) {
-        "task" => ("task,NAME,CORE,PERIOD,DEADLINE,OFFSET", 6),
-        "listed" => ("listed,NAME,CORE,DEADLINE", 4),
-        "op" => ("op,run,UNITS or op,lock,NAME or op,unlock,NAME", 3),
-        "release" => ("release,TICK", 2),
-        "resource" => ("resource,NAME", 2),
-        "cores" => ("cores,M", 2),
-        _ => ("ticks,H", 2),
-    }
-}
-
-// The places of the numbers of a record.
-fn numbers_of(row: &ByteRecord) -> Range<usize> {
-    match name_at(row, 0) {
-        "task" => 2..6,
-        "listed" => 2..4,
-        "op" => 2..3,
-        _ => 1..2,
-    }
-}
-
-// What the number at a place of a record is.
-fn number_name(row: &ByteRecord, i: usize) -> &'static str {
-    match (name_at(row, 0), i) {
-        ("task" | "listed", 2) => "core",
-        ("task", 3) => "period",
-        ("task", 4) | ("listed", 3) => "relative deadline",
-        ("task", 5) => "offset",
-        ("op", _) => "run",
-        ("cores", _) => "cores",
-        ("ticks", _) => "ticks",
-        _ => "release",
+        "task" => ("task,NAME,CORE,PERIOD,DEADLINE,OFFSET", 6, 2, PERIODIC),
+        "listed" => ("listed,NAME,CORE,DEADLINE", 4, 2, LISTED),
+        "op" => (OPERATION, 3, 2, &["run"]),
+        "release" => ("release,TICK", 2, 1, &["release"]),
+        "resource" => ("resource,NAME", 2, 1, &[]),
+        "cores" => ("cores,M", 2, 1, &["cores"]),
+        _ => ("ticks,H", 2, 1, &["ticks"]),
     }
 }
 
@@ -60,10 +38,10 @@ fn number_name(row: &ByteRecord, i: usize) -> &'static str {
 fn is_out(row: &ByteRecord, i: usize) -> bool {
     let number = number_told(row, i);
     match (name_at(row, 0), i) {
-        ("task" | "listed", 2) | ("op" | "resource", _) => false,
         ("cores" | "ticks", _) => true,
         ("task", 5) | ("release", _) => LONGEST_TIME < number,
-        _ => number == 0 || LONGEST_TIME < number,
+        ("task", 3 | 4) | ("listed", 3) => number == 0 || LONGEST_TIME < number,
+        _ => false,
     }
 }
 
@@ -72,20 +50,24 @@ fn is_padded(field: &[u8]) -> bool {
     matches!(field.first(), Some(b' ' | b'\t')) || matches!(field.last(), Some(b' ' | b'\t'))
 }
 
-/// Why the record is refused.
-#[derive(Clone, Copy)]
-pub(crate) struct Reason<'a>(pub RefusedPlan<'a>);
+// A field of a record, where there is a record.
+fn shown(row: Option<&ByteRecord>, i: usize) -> Shown<'_> {
+    match row {
+        Some(row) => Shown(field(row, i)),
+        None => Shown(b""),
+    }
+}
 
-impl<'a> Reason<'a> {
+impl<'a> RefusedPlan<'a> {
     // The place of the field that is wrong.
     fn place(&self) -> usize {
-        let row = self.0.row;
-        match self.0.fault {
+        let row = self.row;
+        let (_, _, first, names) = form_of(row);
+        let mut numbers = first..first.saturating_add(names.len());
+        match self.fault {
             PlanFault::OutOfPlace if has_word(row, 0, b"op") => 1,
-            PlanFault::Number => numbers_of(row)
-                .find(|i| number_at(row, *i).is_none())
-                .unwrap_or(1),
-            PlanFault::Limit => numbers_of(row).find(|i| is_out(row, *i)).unwrap_or(0),
+            PlanFault::Number => numbers.find(|i| number_at(row, *i).is_none()).unwrap_or(1),
+            PlanFault::Limit => numbers.find(|i| is_out(row, *i)).unwrap_or(0),
             PlanFault::Name | PlanFault::Taken | PlanFault::Releases => 1,
             PlanFault::Undeclared | PlanFault::Core | PlanFault::Nesting => 2,
             _ => 0,
@@ -94,12 +76,12 @@ impl<'a> Reason<'a> {
 
     // What is wrong with the whole text, if its first odd record shows it.
     fn file(&self) -> Option<&'static str> {
-        let row = self.0.row;
+        let row = self.row;
         let (first, last) = (field(row, 0), field(row, row.len().saturating_sub(1)));
-        let is_first = self.0.fault == PlanFault::Version;
-        let is_unknown = is_first || self.0.fault == PlanFault::OutOfPlace;
+        let is_first = self.fault == PlanFault::Version;
+        let is_unknown = is_first || self.fault == PlanFault::OutOfPlace;
         let is_longer = is_first && has_word(row, 0, b"msrp") && 2 < row.len()
-            || self.0.fault == PlanFault::FieldCount && form_of(row).1 < row.len();
+            || self.fault == PlanFault::FieldCount && form_of(row).1 < row.len();
         if is_unknown && first.starts_with(b"#") {
             Some("a plan can't have comments")
         } else if is_first && first.contains(&0) {
@@ -109,7 +91,9 @@ impl<'a> Reason<'a> {
         } else if last.contains(&b'\n') || last.contains(&b'\r') {
             Some("the last field goes on in the next line; is a closing quote missing?")
         } else if is_longer && last.len() == 0 {
-            Some(SPARE_COMMAS)
+            Some(
+                "the record ends with a comma, as spreadsheets write it; remove the commas at the ends of lines",
+            )
         } else {
             None
         }
@@ -117,8 +101,8 @@ impl<'a> Reason<'a> {
 
     // P1
     fn version(&self) -> &'static str {
-        match name_at(self.0.row, 0) {
-            _ if self.0.row.len() == 0 => "the plan is empty; it must begin with msrp,1 or msrp,2",
+        match name_at(self.row, 0) {
+            _ if self.row.len() == 0 => "the plan is empty; it must begin with msrp,1 or msrp,2",
             "msrp-trace" => "this is a trace; give the plan first, then the trace",
             "msrp" => "unknown version; a plan must begin with msrp,1 or msrp,2",
             _ => "a plan must begin with msrp,1 or msrp,2; nothing may come before it",
@@ -127,13 +111,12 @@ impl<'a> Reason<'a> {
 
     // P2
     fn out_of_place(&self) -> &'static str {
-        let row = self.0.row;
+        let row = self.row;
         let is_op_word = is_op(b"run", row) || is_op(b"lock", row) || is_op(b"unlock", row);
         match name_at(row, 0) {
             _ if row.len() == 0 => "the plan ends before its ticks record",
-            _ if is_padded(field(row, self.place())) => BLANK,
-            _ if self.0.number == 2 => "[{it}] is out of place; the second record must be cores,M",
-            _ if self.0.number == 3 => "[{it}] is out of place; the third record must be ticks,H",
+            _ if self.number == 2 => "[{it}] is out of place; the second record must be cores,M",
+            _ if self.number == 3 => "[{it}] is out of place; the third record must be ticks,H",
             "resource" =>
                 "resource {2} comes after a task; declare all resources before the first task",
             "op" if row.len() == 1 || is_op_word =>
@@ -148,14 +131,12 @@ impl<'a> Reason<'a> {
     }
 
     // P5
-    fn name(&self) -> &'static str {
-        let name = field(self.0.row, 1);
+    fn misnamed(&self) -> &'static str {
+        let name = field(self.row, 1);
         if name.len() == 0 {
             "the name is empty"
-        } else if name_at(self.0.row, 1).len() == 0 {
+        } else if name_at(self.row, 1).len() == 0 {
             "name [{it}] isn't UTF-8"
-        } else if is_padded(name) {
-            BLANK
         } else if name.iter().any(|byte| byte.is_ascii_uppercase()) {
             "name [{it}] has a capital letter; use a to z, 0 to 9 and _"
         } else if name.contains(&b'.') {
@@ -169,11 +150,11 @@ impl<'a> Reason<'a> {
 
     // P7
     fn limit(&self) -> &'static str {
-        let (row, before) = (self.0.row, self.0.before);
         let mut held = 0usize;
-        for i in 0..before.len() {
-            held = held.saturating_add(usize::from(is_open(before, i)));
+        for i in 0..self.before.len() {
+            held = held.saturating_add(usize::from(is_open(self.before, i)));
         }
+        let row = self.row;
         match (name_at(row, 0), self.place()) {
             ("cores", _) => "cores is {it}; must be 1 to 8",
             ("ticks", _) => "ticks is {it}; must be 1 to 20,000",
@@ -183,9 +164,8 @@ impl<'a> Reason<'a> {
             ("task" | "listed", _) => "{what} is {it}; must be 1 to 1,000,000",
             ("release", _) => "task {task} has too many releases; a task has at most 8,192",
             _ if is_op(b"run", row) && number_told(row, 2) == 0 => "run is 0; must be at least 1",
-            _ if is_op(b"lock", row) && MOST_HELD <= held => {
-                "task {task} holds too many resources; a task holds at most 8 at once"
-            }
+            _ if is_op(b"lock", row) && MOST_HELD <= held =>
+                "task {task} holds too many resources; a task holds at most 8 at once",
             _ =>
                 "task {task} has too many units; a task has at most 4,096, and each lock and unlock is one",
         }
@@ -193,128 +173,117 @@ impl<'a> Reason<'a> {
 
     // P10
     fn nesting(&self) -> &'static str {
-        let row = self.0.row;
-        if self.lock().is_none() {
+        if self.earlier().is_none() {
             "task {task} doesn't hold {it}"
-        } else if !has_word(row, 0, b"op") {
+        } else if !has_word(self.row, 0, b"op") {
             "task {task} ends while it holds {held}; add op,unlock,{held}"
-        } else if is_op(b"lock", row) {
+        } else if is_op(b"lock", self.row) {
             "task {task} already holds {it}"
         } else {
             "task {task} can't unlock {it} now: it must first unlock {held}, which it locked last"
         }
     }
 
-    // The sentence.
+    // The sentence on the record.
     fn sentence(&self) -> &'static str {
-        match self.0.fault {
+        let row = self.row;
+        match self.fault {
+            PlanFault::OutOfPlace | PlanFault::Number | PlanFault::Name
+                if is_padded(field(row, self.place())) =>
+                "field {place} [{it}] begins or ends with a blank; remove it",
             PlanFault::Version => self.version(),
             PlanFault::OutOfPlace => self.out_of_place(),
             PlanFault::FieldCount => "{1} has {fields}; must have {wanted}: {form}",
-            PlanFault::Number if is_padded(field(self.0.row, self.place())) => BLANK,
-            PlanFault::Number => {
-                "{what} is [{it}], not a whole number: no sign, decimal point or leading zero, at most 9 digits"
-            }
-            PlanFault::Name => self.name(),
-            PlanFault::Taken if is_task(self.0.row) => "task {it} is declared twice",
+            PlanFault::Number =>
+                "{what} is [{it}], not a whole number: no sign, decimal point or leading zero, at most 9 digits",
+            PlanFault::Name => self.misnamed(),
+            PlanFault::Taken if is_task(row) => "task {it} is declared twice",
             PlanFault::Taken => "resource {it} is declared twice",
             PlanFault::Limit => self.limit(),
-            PlanFault::Undeclared => {
-                "resource {it} isn't declared; add resource,{it} before the first task"
-            }
+            PlanFault::Undeclared =>
+                "resource {it} isn't declared; add resource,{it} before the first task",
             PlanFault::Core => "core is {it}, but the plan has {cores}, numbered from 0",
             PlanFault::Nesting => self.nesting(),
             PlanFault::NestedGlobal => "global sections can't be nested{nested}",
             PlanFault::NoUnit => "task {task} has no op; add at least one",
             PlanFault::Jobs =>
                 "the tasks release more than 8,192 jobs within the plan's ticks{most}",
-            PlanFault::Releases if has_word(self.0.row, 0, b"release") => {
-                "release is {it}; must be greater than the release before it, {last}"
-            }
+            PlanFault::Releases if has_word(row, 0, b"release") =>
+                "release is {it}; must be greater than the release before it, {last}",
             PlanFault::Releases => "listed task {task} has no release; add release,TICK after it",
             // No record has these.
             PlanFault::Read | PlanFault::Memory => "",
         }
     }
 
-    // The lock that the refusal concerns.
-    fn lock(&self) -> Option<&'a ByteRecord> {
-        let before = self.0.before;
-        earlier_record(self.0.fault, before, self.0.row).and_then(|i| before.get(i))
+    // The earlier record that the refusal concerns.
+    fn earlier(&self) -> Option<&'a ByteRecord> {
+        let before = self.before;
+        earlier_record(self.fault, before, self.row).and_then(|i| before.get(i))
     }
 
     // The name of the last task among the first records.
     fn task_at(&self, place: usize) -> Shown<'a> {
-        let mut records = self.0.before.iter().take(place).rev();
-        match records.find(|row| is_task(row)) {
-            Some(task) => Shown(field(task, 1)),
-            None => Shown(b""),
-        }
+        let mut records = self.before.iter().take(place).rev();
+        shown(records.find(|row| is_task(row)), 1)
     }
 
     // The task, the locks and the cores of a nested lock.
-    fn nested<W: fmt::Write>(&self, f: &mut fmt::Formatter<W>) -> fmt::Result {
-        let before = self.0.before;
+    fn write_nested<W: Write>(&self, f: &mut Formatter<W>) -> fmt::Result {
+        let before = self.before;
         let Some(locks) = nested_locks(before) else {
             return Ok(());
         };
         let (Some(outer), Some(inner)) = (before.get(locks.outer), before.get(locks.inner)) else {
             return Ok(());
         };
-        let task = self.task_at(locks.inner);
-        let (held, name) = (Shown(field(outer, 2)), Shown(field(inner, 2)));
-        let (held_cores, cores) = (cores_of(before, outer), cores_of(before, inner));
+        let (task, users) = (self.task_at(locks.inner), Users::among(before));
+        let (name, held) = (shown(Some(inner), 2), shown(Some(outer), 2));
+        let (cores, held_cores) = (users.of(before, inner), users.of(before, outer));
         write!(f, ": task {task} locks {name} (used on cores {cores})")?;
         write!(f, " while it holds {held} (used on cores {held_cores})")
     }
 
     // The task that releases the most jobs.
-    fn most<W: fmt::Write>(&self, f: &mut fmt::Formatter<W>) -> fmt::Result {
-        let before = self.0.before;
+    fn write_most<W: Write>(&self, f: &mut Formatter<W>) -> fmt::Result {
+        let before = self.before;
         match busiest_task(before).and_then(|i| before.get(i)) {
             Some(task) => {
-                let (name, jobs) = (Shown(field(task, 1)), jobs_of(before, task));
+                let (name, jobs) = (shown(Some(task), 1), jobs_of(before, task));
                 write!(f, "; task {name} releases most: {jobs}")
             }
             None => Ok(()),
         }
     }
 
-    // What stands in a hole.
-    fn fill<W: fmt::Write>(&self, f: &mut fmt::Formatter<W>, hole: &str) -> fmt::Result {
-        let (row, before, place) = (self.0.row, self.0.before, self.place());
-        let it = field(row, place);
+    // What is in a hole.
+    fn fill<W: Write>(&self, f: &mut Formatter<W>, hole: &str) -> fmt::Result {
+        let (row, before, place) = (self.row, self.before, self.place());
+        let (form, wanted, first, names) = form_of(row);
         match hole {
-            "it" => write!(f, "{}", Shown(it)),
+            "it" => write!(f, "{}", Shown(field(row, place))),
             "place" => write!(f, "{}", place.saturating_add(1)),
-            "bytes" => write!(f, "{}", it.len()),
-            "what" => f.write_str(number_name(row, place)),
+            "bytes" => write!(f, "{}", field(row, place).len()),
+            "what" => f.write_str(names.get(place.saturating_sub(first)).unwrap_or(&"")),
             "1" => write!(f, "{}", Shown(field(row, 0))),
             "2" => write!(f, "{}", Shown(field(row, 1))),
             "fields" => write!(f, "{}", Count(row.len() as u128, "field")),
-            "wanted" => write!(f, "{}", form_of(row).1),
-            "form" => f.write_str(form_of(row).0),
+            "wanted" => write!(f, "{wanted}"),
+            "form" => f.write_str(form),
             "task" => write!(f, "{}", self.task_at(before.len())),
-            "held" => match self.lock() {
-                Some(lock) => write!(f, "{}", Shown(field(lock, 2))),
-                None => Ok(()),
-            },
+            "held" => write!(f, "{}", shown(self.earlier(), 2)),
             "cores" => match before.get(1) {
                 Some(cores) => write!(f, "{}", Count(u128::from(number_told(cores, 1)), "core")),
                 None => Ok(()),
             },
-            "last" => match before.last() {
-                Some(last) => write!(f, "{}", Shown(field(last, 1))),
-                None => Ok(()),
-            },
-            "nested" => self.nested(f),
-            _ => self.most(f),
+            "last" => write!(f, "{}", shown(before.last(), 1)),
+            "nested" => self.write_nested(f),
+            _ => self.write_most(f),
         }
     }
-}
 
-impl fmt::Display for Reason<'_> {
-    fn fmt<W: fmt::Write>(&self, f: &mut fmt::Formatter<W>) -> fmt::Result {
+    /// Writes why the record is refused.
+    pub(crate) fn write_reason<W: Write>(&self, f: &mut Formatter<W>) -> fmt::Result {
         let sentence = match self.file() {
             Some(sentence) => sentence,
             None => self.sentence(),
@@ -329,22 +298,5 @@ impl fmt::Display for Reason<'_> {
             }
         }
         Ok(())
-    }
-}
-
-/// What an earlier record has to do with a refusal.
-#[derive(Clone, Copy)]
-pub(crate) struct Note<'a>(pub &'a ByteRecord);
-
-impl fmt::Display for Note<'_> {
-    fn fmt<W: fmt::Write>(&self, f: &mut fmt::Formatter<W>) -> fmt::Result {
-        let (second, third) = (Shown(field(self.0, 1)), Shown(field(self.0, 2)));
-        match name_at(self.0, 0) {
-            "op" => write!(f, "{third} is locked here"),
-            "cores" => f.write_str("the number of cores is declared here"),
-            "release" => f.write_str("the release before is here"),
-            "resource" => write!(f, "resource {second} is declared here"),
-            _ => write!(f, "task {second} is declared here"),
-        }
     }
 }

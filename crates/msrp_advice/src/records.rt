@@ -1,8 +1,8 @@
 //! The records of a plan's text: what each is, and what it shares with another.
-ghost use Rattle.std.specs.Prelude.{◌≡◌, ◌<◌, ◌+◌};
-ghost use Rattle.msrp_plan.specs.Common.{length, map, drop, list_any};
+ghost use Rattle.std.specs.Prelude.{◌≡◌, ◌<◌, ◌≤◌};
+ghost use Rattle.msrp_plan.specs.Common.{length, map, drop, list_any, codes};
 ghost use Rattle.csv.specs.Records.{fields_of};
-ghost use Rattle.msrp_text.specs.Reading.{number_told, record_at};
+ghost use Rattle.msrp_text.specs.Reading.{number_told};
 ghost use Rattle.msrp_advice.specs.Records as spec;
 
 use csv::ByteRecord;
@@ -46,31 +46,33 @@ pub(crate) fn number_told(row: &ByteRecord, i: usize) -> u32
 }
 
 /// A field of a record, empty where there is none.
-pub(crate) fn field(row: &ByteRecord, i: usize) -> &[u8] {
+pub fn field(row: &ByteRecord, i: usize) -> &[u8] {
     match row.get(i) {
         Some(field) => field,
         None => b"",
     }
 }
 
-// Whether a record unlocks what that one locks.
-fn is_unlock_of(lock: &ByteRecord, row: &ByteRecord) -> bool
-    ensures { result ≡ spec.is_unlock_of (fields_of lock.now) (fields_of row.now) }
+/// Whether a record is an operation of that word on the resource of a lock.
+pub(crate) fn is_op_on(word: &[u8], lock: &ByteRecord, row: &ByteRecord) -> bool
+    ensures { result ≡ spec.is_op_on word.now (fields_of lock.now) (fields_of row.now) }
 {
-    is_op(b"unlock", row) && is_same(2, lock, row)
+    is_op(word, row) && is_same(2, lock, row)
 }
 
-// Whether a record after the lock at a place unlocks its resource.
-fn is_let_go(before: &[ByteRecord], i: usize) -> bool
-    requires { i < length before.now }
-    ensures { result ≡ list_any (spec.is_unlock_of (record_at (map fields_of before.now) i)) (drop (i + 1) (map fields_of before.now)) }
+// Whether one of these records unlocks what a lock locks.
+fn has_unlock(lock: &ByteRecord, rows: &[ByteRecord]) -> bool
+    ensures { result ≡ list_any (λ row. spec.is_op_on (codes "unlock") (fields_of lock.now) (fields_of row)) rows.now }
 {
-    for later in i + 1..before.len() {
-        if is_unlock_of(&before[i], &before[later]) {
-            return true;
-        }
-    }
-    false
+    rows.iter().any(|row| is_op_on(b"unlock", lock, row))
+}
+
+// Whether one from that place on does.
+fn is_let_go(lock: &ByteRecord, rows: &[ByteRecord], from: usize) -> bool
+    requires { from ≤ length rows.now }
+    ensures { result ≡ list_any (λ row. spec.is_op_on (codes "unlock") (fields_of lock.now) (fields_of row)) (drop from rows.now) }
+{
+    has_unlock(lock, &rows[from..])
 }
 
 /// Whether the record at a place is a lock, and none after it unlocks its resource.
@@ -78,7 +80,8 @@ pub(crate) fn is_open(before: &[ByteRecord], i: usize) -> bool
     requires { i < length before.now }
     ensures { result ≡ spec.is_open (map fields_of before.now) i }
 {
-    is_op(b"lock", &before[i]) && !is_let_go(before, i)
+    let lock = &before[i];
+    is_op(b"lock", lock) && !is_let_go(lock, before, i + 1)
 }
 
 /// How many jobs a periodic task releases within the ticks, which the third record has.
@@ -97,10 +100,8 @@ pub(crate) fn jobs_of(records: &[ByteRecord], task: &ByteRecord) -> u32 {
 
 /// The place of a periodic task that releases the most jobs.
 pub(crate) fn busiest_task(records: &[ByteRecord]) -> Option<usize> {
-    let tasks = records
-        .iter()
-        .enumerate()
-        .filter(|(_, row)| has_word(row, 0, b"task"));
+    let rows = records.iter().enumerate();
+    let tasks = rows.filter(|(_, row)| has_word(row, 0, b"task"));
     match tasks.max_by_key(|(_, row)| jobs_of(records, row)) {
         Some((place, _)) => Some(place),
         None => None,

@@ -1,13 +1,13 @@
-//! Bytes of a text as they are shown to a user.
+//! Bytes, names and numbers as they are shown to a user.
 
 use crate::records::field;
 use csv::ByteRecord;
-use std::fmt;
+use msrp_plan::{Plan, ResId, TaskId};
+use std::fmt::{self, Formatter, Write};
 
-// The most fields of a record that are shown.
+// The most fields of a record that are shown, and the most bytes of a field.
 const MOST_FIELDS: usize = 16;
 
-// The most bytes of a field that are shown.
 const MOST_BYTES: usize = 40;
 
 /// The first bytes of a field; a question mark stands for each that isn't printable ASCII.
@@ -15,7 +15,7 @@ const MOST_BYTES: usize = 40;
 pub struct Shown<'a>(pub &'a [u8]);
 
 impl fmt::Display for Shown<'_> {
-    fn fmt<W: fmt::Write>(&self, f: &mut fmt::Formatter<W>) -> fmt::Result {
+    fn fmt<W: Write>(&self, f: &mut Formatter<W>) -> fmt::Result {
         for byte in self.0.iter().take(MOST_BYTES) {
             let is_printable = *byte == b' ' || byte.is_ascii_graphic();
             f.write_char(if is_printable { char::from(*byte) } else { '?' })?;
@@ -29,13 +29,12 @@ impl fmt::Display for Shown<'_> {
 pub struct ShownRecord<'a>(pub &'a ByteRecord);
 
 impl fmt::Display for ShownRecord<'_> {
-    fn fmt<W: fmt::Write>(&self, f: &mut fmt::Formatter<W>) -> fmt::Result {
+    fn fmt<W: Write>(&self, f: &mut Formatter<W>) -> fmt::Result {
         if self.0.len() == 0 {
             return f.write_str("the end of the text");
         }
         for i in 0..self.0.len().min(MOST_FIELDS) {
-            let field = Shown(field(self.0, i));
-            write!(f, "[{field}]")?;
+            write!(f, "[{}]", Shown(field(self.0, i)))?;
         }
         Ok(())
     }
@@ -46,27 +45,26 @@ impl fmt::Display for ShownRecord<'_> {
 pub struct Count(pub u128, pub &'static str);
 
 impl fmt::Display for Count {
-    fn fmt<W: fmt::Write>(&self, f: &mut fmt::Formatter<W>) -> fmt::Result {
+    fn fmt<W: Write>(&self, f: &mut Formatter<W>) -> fmt::Result {
         let ending = if self.0 == 1 { "" } else { "s" };
         write!(f, "{} {}{ending}", self.0, self.1)
     }
 }
 
-/// The field of a record that is wrong, counted from 1, in front of what is said of it. There need not be one.
-#[derive(Clone, Copy)]
-pub struct WrongField<'a> {
-    pub row: &'a ByteRecord,
-    pub place: Option<usize>,
+/// The name of a task; `?` where the plan has no such task.
+pub fn task_name(plan: &Plan, task: TaskId) -> &str {
+    if task.0 < plan.tasks() {
+        plan.task_name(task)
+    } else {
+        "?"
+    }
 }
 
-impl fmt::Display for WrongField<'_> {
-    fn fmt<W: fmt::Write>(&self, f: &mut fmt::Formatter<W>) -> fmt::Result {
-        match self.place {
-            Some(i) => {
-                let (number, shown) = (i.saturating_add(1), Shown(field(self.row, i)));
-                write!(f, "field {number} [{shown}]: ")
-            }
-            None => Ok(()),
-        }
+/// The name of a resource; `?` where the plan has no such resource.
+pub fn res_name(plan: &Plan, res: ResId) -> &str {
+    if res.0 < plan.resources() {
+        plan.res_name(res)
+    } else {
+        "?"
     }
 }

@@ -4,11 +4,11 @@ ghost use Rattle.msrp_plan.specs.Common.{length, list_any, range_with_len, IfOk,
 ghost use Rattle.msrp_advice.specs.Warnings.{core_units, has_deadline, units_of, is_odd};
 ghost use Rattle.std.specs.List.{AllPass};
 
-use crate::shown::Count;
+use crate::shown::{Count, res_name, task_name};
 use msrp_levels::Levels;
 use msrp_plan::{CoreId, JobId, Plan, ResId, TaskId};
 use std::alloc::{AllocError, Global};
-use std::fmt;
+use std::fmt::{self, Formatter, Write};
 
 /// Something in an accepted plan that is rarely meant so.
 #[derive(Clone, Copy, Debug, PartialEq, Eq)]
@@ -33,6 +33,9 @@ pub enum Warning {
     /// No job has its absolute deadline within the ticks.
     NoDeadline,
 }
+
+// A warning was added where there was reason for it, or memory ran out.
+type Made = Result<(), AllocError>;
 
 // How many units the jobs of a task have, if it is a task of that core.
 fn units_of(plan: &Plan, core: CoreId, task: TaskId) -> u64
@@ -73,12 +76,7 @@ fn any_has_deadline(plan: &Plan) -> bool
 }
 
 // Adds a warning if there is reason for it.
-fn warn_if(
-    reason: bool,
-    plan: &Plan,
-    warnings: &mut Vec<Warning>,
-    warning: Warning,
-) -> Result<(), AllocError>
+fn warn_if(reason: bool, plan: &Plan, warnings: &mut Vec<Warning>, warning: Warning) -> Made
     requires fact { reason ≡ is_odd plan.now warning }
     requires facts { AllPass (is_odd plan.now) warnings.old.items }
     ensures { OnOk result (AllPass (is_odd plan.now) warnings.new.items) }
@@ -89,7 +87,7 @@ fn warn_if(
     Ok(())
 }
 
-fn warn_of_tasks(plan: &Plan, warnings: &mut Vec<Warning>) -> Result<(), AllocError>
+fn warn_of_tasks(plan: &Plan, warnings: &mut Vec<Warning>) -> Made
     requires { AllPass (is_odd plan.now) warnings.old.items }
     ensures { OnOk result (AllPass (is_odd plan.now) warnings.new.items) }
 {
@@ -107,11 +105,7 @@ fn warn_of_tasks(plan: &Plan, warnings: &mut Vec<Warning>) -> Result<(), AllocEr
     Ok(())
 }
 
-fn warn_of_resources(
-    plan: &Plan,
-    levels: &Levels<'_>,
-    warnings: &mut Vec<Warning>,
-) -> Result<(), AllocError>
+fn warn_of_resources(plan: &Plan, levels: &Levels<'_>, warnings: &mut Vec<Warning>) -> Made
     requires levels { levels.now ≡ plan.now }
     requires facts { AllPass (is_odd plan.now) warnings.old.items }
     ensures { OnOk result (AllPass (is_odd plan.now) warnings.new.items) }
@@ -124,23 +118,15 @@ fn warn_of_resources(
     Ok(())
 }
 
-fn warn_of_cores(
-    plan: &Plan,
-    levels: &Levels<'_>,
-    warnings: &mut Vec<Warning>,
-) -> Result<(), AllocError>
+fn warn_of_cores(plan: &Plan, levels: &Levels<'_>, warnings: &mut Vec<Warning>) -> Made
     requires levels { levels.now ≡ plan.now }
     requires facts { AllPass (is_odd plan.now) warnings.old.items }
     ensures { OnOk result (AllPass (is_odd plan.now) warnings.new.items) }
 {
     for core in 0..plan.cores() {
         let core = CoreId(core);
-        warn_if(
-            levels.top(core) == 0,
-            plan,
-            warnings,
-            Warning::IdleCore(core),
-        )?;
+        let is_idle = levels.top(core) == 0;
+        warn_if(is_idle, plan, warnings, Warning::IdleCore(core))?;
         let units = core_units(plan, core);
         let is_more = u128::from(plan.ticks()) < units;
         warn_if(is_more, plan, warnings, Warning::Overload { core, units })?;
@@ -166,71 +152,6 @@ pub fn warnings_of(
     Ok(warnings)
 }
 
-// A warning on a plan, in words.
-#[derive(Clone, Copy)]
-struct Worded<'a> {
-    plan: &'a Plan,
-    warning: Warning,
-}
-
-impl Worded<'_> {
-    // The name of a task; a number that is no task's has none.
-    fn task(&self, task: TaskId) -> &str {
-        if task.0 < self.plan.tasks() {
-            self.plan.task_name(task)
-        } else {
-            ""
-        }
-    }
-
-    fn resource(&self, res: ResId) -> &str {
-        if res.0 < self.plan.resources() {
-            self.plan.res_name(res)
-        } else {
-            ""
-        }
-    }
-}
-
-impl fmt::Display for Worded<'_> {
-    fn fmt<W: fmt::Write>(&self, f: &mut fmt::Formatter<W>) -> fmt::Result {
-        let all = u128::from(self.plan.ticks());
-        let ticks = Count(all, "tick");
-        match self.warning {
-            Warning::NoJob(task) => {
-                let name = self.task(task);
-                write!(f, "task {name} releases no job within the plan ({ticks})")
-            }
-            Warning::ShortDeadline {
-                task,
-                units,
-                deadline,
-            } => {
-                let name = self.task(task);
-                write!(
-                    f,
-                    "task {name} can't meet its deadline: needs {units} ticks, has {deadline}"
-                )
-            }
-            Warning::UnusedResource(res) => {
-                write!(f, "resource {} is locked by no task", self.resource(res))
-            }
-            Warning::IdleCore(core) => write!(f, "core {} has no task", core.0),
-            Warning::Overload { core, units } => {
-                let (work, percent) = (Count(units, "tick"), units.saturating_mul(100) / all);
-                write!(
-                    f,
-                    "core {} is overloaded: {work} of work in {ticks} ({percent} %)",
-                    core.0
-                )
-            }
-            Warning::NoDeadline => {
-                write!(f, "no job has its deadline within the plan ({ticks})")
-            }
-        }
-    }
-}
-
 /// What is said of an accepted plan: that it is good, and then the warnings on it, a line each.
 #[derive(Clone, Copy)]
 pub struct AcceptedPlan<'a> {
@@ -238,15 +159,47 @@ pub struct AcceptedPlan<'a> {
     pub warnings: &'a [Warning],
 }
 
+// A warning on a plan, in words.
+fn write_warning<W: Write>(f: &mut Formatter<W>, plan: &Plan, warning: Warning) -> fmt::Result {
+    let all = u128::from(plan.ticks());
+    let ticks = Count(all, "tick");
+    match warning {
+        Warning::NoJob(task) => {
+            let name = task_name(plan, task);
+            write!(f, "task {name} releases no job within the plan ({ticks})")
+        }
+        Warning::ShortDeadline {
+            task,
+            units,
+            deadline,
+        } => {
+            write!(
+                f,
+                "task {} can't meet its deadline: ",
+                task_name(plan, task)
+            )?;
+            write!(f, "needs {units} ticks, has {deadline}")
+        }
+        Warning::UnusedResource(res) => {
+            write!(f, "resource {} is locked by no task", res_name(plan, res))
+        }
+        Warning::IdleCore(core) => write!(f, "core {} has no task", core.0),
+        Warning::Overload { core, units } => {
+            let (work, percent) = (Count(units, "tick"), units.saturating_mul(100) / all);
+            write!(f, "core {} is overloaded: ", core.0)?;
+            write!(f, "{work} of work in {ticks} ({percent} %)")
+        }
+        Warning::NoDeadline => write!(f, "no job has its deadline within the plan ({ticks})"),
+    }
+}
+
 impl fmt::Display for AcceptedPlan<'_> {
-    fn fmt<W: fmt::Write>(&self, f: &mut fmt::Formatter<W>) -> fmt::Result {
+    fn fmt<W: Write>(&self, f: &mut Formatter<W>) -> fmt::Result {
         f.write_str("good\n")?;
         for warning in self.warnings {
-            let worded = Worded {
-                plan: self.plan,
-                warning: *warning,
-            };
-            writeln!(f, "warning: {worded}")?;
+            f.write_str("warning: ")?;
+            write_warning(f, self.plan, *warning)?;
+            f.write_char('\n')?;
         }
         Ok(())
     }

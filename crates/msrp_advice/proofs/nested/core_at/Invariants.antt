@@ -5,4 +5,4 @@ use Rattle.msrp_advice.specs.Nested.{core_at}
 use Rattle.msrp_advice.proofs.nested.core_at.Given as goal
 
 abbrev pub invariant-loop-k : goal.invariant-loop-k
-invariant-loop-k l = l.core ≡ core_at (map fields_of l.before) l.k
+invariant-loop-k l = l.core ≡ core_at (map fields_of l.records) l.k

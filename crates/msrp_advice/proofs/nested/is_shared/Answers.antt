@@ -1,6 +1,27 @@
 use Rattle.std.proofs.Common.{◌∙◌}
-use Rattle.msrp_plan.proofs.Common.{sym}
+use Rattle.msrp_plan.proofs.Common.{sym, ap, codes, map, not_equal}
+use Rattle.csv.specs.Records.{fields_of}
+use Rattle.msrp_text.specs.Reading.{record_at}
+use Rattle.msrp_advice.specs.Nested.{core_at}
+use Rattle.msrp_advice.specs.Records.{is_op_on}
+use Rattle.msrp_advice.proofs.Places.{core-more, core-none, record-is}
 use Rattle.msrp_advice.proofs.nested.is_shared.Goals as goal
 
-pub returns-in-Some : goal.returns-in-Some
-returns-in-Some c = λ shared. (c.in-Some.other, sym c.is_elsewhere.ensures ∙ shared)
+pub loop-k-init : goal.loop-k-init
+loop-k-init c = core-none (map fields_of c.args.records.now)
+
+pub loop-k-preserved : goal.loop-k-preserved
+loop-k-preserved c =
+    let row = record-is c.args.records.now c.loop-k.k c.index-records-k.result c.loop-k-test.true c.index-records-k.is in
+    core-more (map fields_of c.args.records.now) c.loop-k.k _ _ _ c.core_after-core.ensures row c.loop-k.invariant
+
+pub returns-then-is_op_on : goal.returns-then-is_op_on
+returns-then-is_op_on c = λ shared.
+    let records = map fields_of c.args.records.now in
+    let lock = record-is c.args.records.now c.args.lock c.index-records-lock.result c.requires c.index-records-lock.is in
+    let row = record-is c.args.records.now c.loop-k.k c.index-records-k.result c.loop-k-test.true c.index-records-k.is in
+    record {
+      place = c.loop-k.k;
+      locks = sym (c.is_op_on.ensures ∙ (ap (λ fields. is_op_on (codes "lock") fields (fields_of c.index-records-k.result)) lock ∙ ap (is_op_on (codes "lock") (record_at records c.args.lock)) row)) ∙ c.if-is_op_on.true;
+      elsewhere = not_equal (core_at records c.loop-k.k) (core_at records c.args.lock) (λ same. c.if-core-own.true (c.loop-k.invariant ∙ (same ∙ sym c.core_at-own.ensures)));
+    }

@@ -2,16 +2,16 @@ use Rattle.std.proofs.Common.{◌∙◌}
 use Rattle.msrp_plan.proofs.Common.{map, sym}
 use Rattle.csv.specs.Records.{fields_of}
 use Rattle.msrp_advice.specs.Earlier.{is_sought}
-use Rattle.msrp_advice.proofs.earlier.last_place.Goals.{then-is_sought, else-is_sought}
+use Rattle.msrp_advice.proofs.earlier.earlier_record.Goals.{then-is_sought, else-is_sought}
 use Rattle.msrp_advice.proofs.Places.{last-is, last-kept, last-none}
-use Rattle.msrp_advice.proofs.earlier.last_place.Goals as goal
+use Rattle.msrp_advice.proofs.earlier.earlier_record.Goals as goal
 
 pub loop-i-init : goal.loop-i-init
-loop-i-init c = last-none (is_sought c.args.sought (map fields_of c.args.before.now) (fields_of c.args.row.now))
+loop-i-init c = last-none (is_sought c.args.fault (map fields_of c.args.before.now) (fields_of c.args.row.now))
 
 pub loop-i-preserved : goal.loop-i-preserved
 loop-i-preserved c =
-    let test = is_sought c.args.sought (map fields_of c.args.before.now) (fields_of c.args.row.now) in
+    let test = is_sought c.args.fault (map fields_of c.args.before.now) (fields_of c.args.row.now) in
     elim c.if-is_sought.branch [
       | then-is_sought w ↦ w.last-is ∙ last-is test c.loop-i.i (sym c.is_sought.ensures ∙ w.if-is_sought.true)
       | else-is_sought w ↦ w.last-is ∙ (c.loop-i.invariant ∙ last-kept test c.loop-i.i (sym c.is_sought.ensures ∙ w.if-is_sought.false))
