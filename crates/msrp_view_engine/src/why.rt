@@ -21,9 +21,7 @@ use msrp_plan::bytes::{Sink, Source};
 use msrp_plan::{Fault, Plan, TextVersion};
 use msrp_text::read_plan;
 use msrp_trace::{TraceError, TraceReader};
-use msrp_why::{
-    Ground, Notes, cause_of, write_cause, write_exercise, write_missing, write_refused,
-};
+use msrp_why::{Exercise, Ground, Missing, Notes, RefusedRecord, Why, cause_of};
 use std::alloc::{AllocError, Global};
 use std::io::{Read, Write};
 
@@ -76,23 +74,25 @@ fn judge_rows<T: Read>(
     ensures read { (bytes : List ℕ) → HasReadIn T.remaining bytes rows.old → IfErr result (λ error. HasReadBehind T.remaining bytes (Err error) rows.new) }
 {
     while let Some(row) = rows.next_foreseen(|core| auditor.foresee(core))? {
+        let state = auditor.state(row.core);
         if !auditor.is_in_turn(row) {
             let fault = auditor.fault_out_of_turn();
             let line = line_of_row(rows, fault);
             return Ok(Judged {
                 verdict: Err(fault),
-                ground: Ground::Row(cause_of(plan, auditor, notes, None, row, line, fault)),
+                ground: Ground::Row(cause_of(plan, auditor, notes, state, None, row, line, fault)),
             });
         }
         let due = auditor.turn(row.core);
         if let Err(fault) = auditor.judge(due, row) {
             let line = line_of_row(rows, fault);
+            let due = Some(due);
             return Ok(Judged {
                 verdict: Err(fault),
-                ground: Ground::Row(cause_of(plan, auditor, notes, Some(due), row, line, fault)),
+                ground: Ground::Row(cause_of(plan, auditor, notes, state, due, row, line, fault)),
             });
         }
-        notes.note(plan, levels, auditor, row);
+        notes.note(plan, levels, state, row);
     }
     Ok(Judged {
         verdict: auditor.end(),
@@ -112,9 +112,16 @@ fn write_ground<W: Write>(
     requires levels { levels.now ≡ plan.now }
 {
     match (&judged.ground, judged.verdict) {
-        (Ground::Row(cause), _) => write_cause(out, plan, levels, version, cause, line),
-        (Ground::End(notes), Ok(())) => write_exercise(out, plan, notes, line),
-        (Ground::End(notes), Err(_)) => write_missing(out, plan, version, notes, line),
+        (Ground::Row(cause), _) => out.show(&Why::new(plan, levels, version, cause), line),
+        (Ground::End(notes), Ok(())) => out.show(&Exercise { plan, notes }, line),
+        (Ground::End(notes), Err(_)) => {
+            let missing = Missing {
+                plan,
+                version,
+                notes,
+            };
+            out.show(&missing, line)
+        }
     }
 }
 
@@ -157,7 +164,14 @@ fn words_on_refusal(
     };
     let mut text = Sink::new(Vec::new(alloc));
     let mut buffer = String::new(alloc);
-    write_refused(&mut text, plan, fault, number, line, row, &mut buffer)?;
+    let refused = RefusedRecord {
+        plan,
+        fault,
+        number,
+        line,
+        row,
+    };
+    text.show(&refused, &mut buffer)?;
     Ok(Explained {
         text: gathered_text(text)?,
         found: Err(CliFault::from(error)),
@@ -177,7 +191,7 @@ fn explain_rows<T: Read>(
     ensures faults { IfErr result (λ fault. (fault ≡ CliFault.Memory) ⊎ (fault ≡ CliFault.Read)) }
 {
     let mut auditor = Auditor::with_room(alloc, plan, levels)?;
-    let notes = Notes::with_room(alloc, plan, &auditor)?;
+    let notes = Notes::with_room(alloc, plan)?;
     match judge_rows(plan, levels, &mut auditor, notes, rows) {
         Ok(judged) => words_on(alloc, plan, levels, rows.version(), judged),
         Err(error) => {

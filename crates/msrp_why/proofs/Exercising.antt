@@ -1,25 +1,33 @@
 -- What a run exercised, one row more.
-use Rattle.msrp_plan.proofs.Common.{ℕ, suc, max, Bool, true, false, cond, not, nat_lt, List, [], Option, Some, None, refl, ap, sym, subst, arith, length, length-append, append-nil, append_assoc, inl, inr, ForSome, mul-le-mul_left, and_parts, not-true, count_after, is_before, done, is_job, is_released, is_started, jobs_of, jobs_on, PlanModel, is_on, IsLegal, IsRunStart, IsPlan, is_job_is, same_self, IsTurn, legal_turn, turn_chosen, turn_core, least_passes, is_queue}
+use Rattle.msrp_plan.proofs.Common.{ℕ, suc, max, Bool, true, false, cond, not, nat_lt, List, [], Option, Some, None, refl, ap, sym, subst, arith, length, length-append, append-nil, append_assoc, inl, inr, ForSome, mul-le-mul_left, and_parts, not-true, count_after, is_before, done, is_job, is_released, is_started, jobs_of, jobs_on, PlanModel, is_on, IsLegal, IsRunStart, IsPlan, is_job_is, same_self, IsTurn, legal_turn, turn_chosen, turn_core, least_passes, is_queue, All-contains, All-from_recursion, Contains, core_jobs_below, each_at, each_before, least_in, log_of}
 use Rattle.msrp_plan.specs.declared.ids.JobId.{JobId}
 use Rattle.msrp_plan.specs.declared.rows.Row.{Row}
 use Rattle.std.proofs.Common.{◌≡◌, ◌+◌, ◌*◌, ◌<◌, ◌≤◌, ◌&&◌, ◌∷◌, ◌++◌, ◌∙◌, lt-ltb}
 use Rattle.std.proofs.Math.Nat.{max-zero}
 use Rattle.msrp_core.specs.CoreStates.{IsCoreState}
 use Rattle.msrp_core.specs.declared.states.CoreState.{CoreState}
-use Rattle.msrp_plan.specs.Choice.{head}
 use Rattle.msrp_plan.proofs.Blocking.SectionRows.{count_after_push}
 use Rattle.msrp_plan.proofs.Choosing.Live.{nothing_done}
 use Rattle.msrp_plan.proofs.Choosing.Turns.{has_turn}
 use Rattle.msrp_audit.proofs.Judging.{own_is}
-use Rattle.msrp_why.specs.Exercise.{AreResourceCounts, AreTurnCounts, ends, finishes, is_at, is_entry, is_in_tick, is_kept, is_met, is_other, is_past, most_after, nests, one_if, queued_with}
-use Rattle.msrp_why.specs.Inside.Steps.{IsCountStep}
-use Rattle.msrp_why.specs.Inside.Turns.{finishes_from, is_job_of, units_done}
 use Rattle.msrp_why.specs.NumberedRows.{last_change, queue_rows}
 use Rattle.msrp_why.specs.declared.exercise.ResourceCounts.{ResourceCounts}
-use Rattle.msrp_why.specs.declared.exercise.TurnCounts.{TurnCounts}
 use Rattle.msrp_why.specs.declared.notes.ResourceNotes.{ResourceNotes}
 use Rattle.msrp_plan.specs.Laws.{is_grant}
-use Rattle.msrp_why.proofs.Deciding.{below}
+use Rattle.msrp_plan.proofs.Runs.CoreRuns.{reached_tick}
+use Rattle.msrp_why.specs.Noted.{AreResourceCounts, ends, finishes, is_entry, is_in_tick, most_after, one_if, queued_with}
+use Rattle.msrp_why.specs.Inside.{IsCountStep, finishes_from, is_job_of, units_done}
+
+-- a row of a run is in its core's next tick
+pub tick_is : (plan : PlanModel) (rows : List Row) (r : Row) → IsRunStart plan (rows ++ r ∷ []) → length (log_of r.core.0 rows) ≡ r.tick
+tick_is plan rows r start = sym (reached_tick plan rows r (each_before (IsLegal plan) [] rows (r ∷ []) start.each) (each_at (IsLegal plan) [] rows r [] start.each))
+
+-- the head is of a task of the plan
+pub below : (plan : PlanModel) (c : ℕ) (j : JobId) → Contains (jobs_on plan c) j → j.task.0 < length plan.tasks
+below plan c j on = All-contains (λ (i : JobId). i.task.0 < length plan.tasks) (jobs_on plan c) j (All-from_recursion (λ (i : JobId). i.task.0 < length plan.tasks) (jobs_on plan c) (core_jobs_below plan c)) on
+
+pub head_known : (plan : PlanModel) (c t : ℕ) (rows : List Row) (s : CoreState) → IsCoreState plan c t rows s → ForSome s.head (λ h. h.task.0 < length plan.tasks)
+head_known plan c t rows s is = λ h e. below plan c h (least_in (is_before plan) (λ j. is_released plan t j && not (is_started rows j)) (jobs_on plan c) h (sym is.head ∙ e))
 
 -- the rows before another are few
 few : (n cores ticks : ℕ) → n ≤ cores * ticks → cores ≤ 8 → ticks ≤ 20000 → n ≤ 160000
@@ -126,39 +134,6 @@ module _ (plan : PlanModel) (rows : List Row) (r : Row) (s : CoreState) (ok : Is
     | inr runs ↦ ap (λ o. cond (is_job o j) s.done 0) (is.running ∙ runs) ∙ (ap (λ b. cond b s.done 0) (same_self j) ∙ runs_so j (is.running ∙ runs))
   ]
 
-  finishes_by : (o : Option JobId) → r.job ≡ o → finishes plan rows r o ≡ finishes_from plan s r.kind o
+  pub finishes_by : (o : Option JobId) → r.job ≡ o → finishes plan rows r o ≡ finishes_from plan s r.kind o
   finishes_by None job = refl
   finishes_by (Some j) job = ap (λ n. ends plan r.kind n j) (sym (done_so j job))
-
-  -- what is asked of the row, by the state before it
-  pub record AreTests (finished late at kept met other nested : Bool) : Type 0 where
-    pub finished_is : finished ≡ finishes_from plan s r.kind r.job
-    pub late_is : late ≡ (finished && is_past plan r.tick r.job)
-    pub at_is : at ≡ (finished && is_at plan r.tick r.job)
-    pub kept_is : kept ≡ is_kept plan s.ceiling s.head
-    pub met_is : met ≡ is_met plan s.ceiling s.head
-    pub other_is : other ≡ is_other s.running r.job
-    pub nested_is : nested ≡ nests plan rows r
-
-  -- the counts, each with one more if so
-  pub record AreMore (old new : TurnCounts) (finished late at kept met other nested : Bool) : Type 0 where
-    pub finished_more : new.finished ≡ one_if old.finished finished
-    pub late_more : new.late ≡ one_if old.late late
-    pub at_more : new.at_deadline ≡ one_if old.at_deadline at
-    pub kept_more : new.kept ≡ one_if old.kept kept
-    pub met_more : new.at_ceiling ≡ one_if old.at_ceiling met
-    pub other_more : new.preempted ≡ one_if old.preempted other
-    pub nested_more : new.nested ≡ one_if old.nested nested
-
-  pub turns_on : (few : length rows < 160000) (old new : TurnCounts) (finished late at kept met other nested : Bool) → AreTests finished late at kept met other nested → AreMore old new finished late at kept met other nested → AreTurnCounts plan rows old → AreTurnCounts plan (rows ++ r ∷ []) new
-  turns_on few old new finished late at kept met other nested tests more was =
-      let ends_so : finishes plan rows r r.job ≡ finished = finishes_by r.job refl ∙ sym tests.finished_is in
-      record {
-        finished = one_more_counted _ rows r finished old.finished new.finished few ends_so more.finished_more was.finished;
-        late = one_more_counted _ rows r _ old.late new.late few (ap (λ b. b && is_past plan r.tick r.job) ends_so ∙ sym tests.late_is) more.late_more was.late;
-        at_deadline = one_more_counted _ rows r _ old.at_deadline new.at_deadline few (ap (λ b. b && is_at plan r.tick r.job) ends_so ∙ sym tests.at_is) more.at_more was.at_deadline;
-        kept = one_more_counted _ rows r kept old.kept new.kept few (ap (λ n. is_kept plan n (head plan r.core.0 r.tick rows)) (sym is.ceiling) ∙ (ap (is_kept plan s.ceiling) (sym is.head) ∙ sym tests.kept_is)) more.kept_more was.kept;
-        at_ceiling = one_more_counted _ rows r met old.at_ceiling new.at_ceiling few (ap (λ n. is_met plan n (head plan r.core.0 r.tick rows)) (sym is.ceiling) ∙ (ap (is_met plan s.ceiling) (sym is.head) ∙ sym tests.met_is)) more.met_more was.at_ceiling;
-        preempted = one_more_counted _ rows r other old.preempted new.preempted few (ap (λ x. is_other x r.job) (sym is.running) ∙ sym tests.other_is) more.other_more was.preempted;
-        nested = one_more_counted _ rows r nested old.nested new.nested few (sym tests.nested_is) more.nested_more was.nested;
-      }

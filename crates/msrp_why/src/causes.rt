@@ -4,7 +4,7 @@ ghost use Rattle.msrp_plan.specs.Common.{[], List, None, length, fault_in, IsPla
 ghost use Rattle.msrp_audit.specs.Audits.{HasFed, IsBroken};
 ghost use Rattle.msrp_plan.specs.declared.rows.Row.{Row as TraceRow};
 ghost use Rattle.msrp_why.specs.Causes.{IsCauseAfter, cores_with_turn};
-ghost use Rattle.msrp_why.specs.Noted.{AreNoted};
+ghost use Rattle.msrp_why.specs.Noted.{AreNoted, IsStateAfter};
 
 use crate::notes::Notes;
 use arrayvec::ArrayVec;
@@ -65,24 +65,24 @@ fn cores_with_turn(plan: &Plan, auditor: &Auditor<'_>) -> ArrayVec<u32, MOST_TUR
     found
 }
 
-/// The cause of the fault of a row, which an auditor has judged. `expected` is the expected row of its core, where the row is
-/// in its turn; the notes are those of the rows before; `line` is the line in which the row's record begins, where that is
-/// known.
+/// The cause of the fault of a row, which an auditor has judged. The notes and the state of its core are those before the row;
+/// `expected` is the expected row of its core, where the row is in its turn; `line` is the line in which the row's record begins, where
+/// that is known.
 pub fn cause_of(
     plan: &Plan,
     auditor: &Auditor<'_>,
     notes: Notes,
+    state: Option<CoreState>,
     expected: Option<Row>,
     row: Row,
     line: Option<u64>,
     fault: Fault,
 ) -> Cause
     requires plan { auditor.now.plan ≡ plan.now }
-    ensures cause { (rows : List TraceRow) → fault_in plan.now rows ≡ None → IsBroken plan.now rows row fault expected auditor.now → AreNoted plan.now rows notes → IsCauseAfter plan.now rows row result }
+    ensures cause { (rows : List TraceRow) → fault_in plan.now rows ≡ None → IsBroken plan.now rows row fault expected auditor.now → AreNoted plan.now rows notes → IsStateAfter plan.now rows row.core.0 state → IsCauseAfter plan.now rows row result }
     ensures line { result.line ≡ line }
 {
     let turns = cores_with_turn(plan, auditor);
-    let state = notes.state(row.core);
     Cause {
         fault,
         row,

@@ -1,7 +1,7 @@
 //! Why a row of a trace is refused: the row, the rule, the row expected in its place, and the facts that decide it.
 //!
 //! [`Notes`] are kept row by row while an auditor judges a trace; [`cause_of`] makes the cause of a fault of them. What a
-//! cause holds is proved. Its text ([`write_cause`], [`write_missing`], [`write_exercise`], [`write_refused`]) is tested.
+//! cause holds is proved. Its words ([`Why`], [`Missing`], [`Exercise`], [`RefusedRecord`]) are tested.
 //! [`laws`] are theorems about what is noted.
 #![tactic(auto)]
 
@@ -10,14 +10,13 @@ mod exercise;
 pub mod laws;
 mod misfits;
 mod notes;
-mod refusals;
 mod rows;
 mod telling;
 mod tried;
 
 pub use causes::{Cause, Ground, cause_of};
 pub use exercise::{ResourceCounts, TurnCounts};
+pub use misfits::RefusedRecord;
 pub use notes::{Notes, Numbered, ResourceNotes};
-pub use refusals::write_refused;
-pub use telling::{write_cause, write_missing};
-pub use tried::write_exercise;
+pub use telling::{Missing, Why};
+pub use tried::Exercise;

@@ -1,201 +1,173 @@
-//! What is wrong with a refused record of a trace, in words. A record without fields is the end of the text.
-ghost use Rattle.std.specs.Prelude.{◌<◌};
-ghost use Rattle.msrp_plan.specs.Common.{IfSome};
-ghost use Rattle.std.proofs.Props.{props};
+//! A refused record of a trace, in words.
 
-use crate::rows::{res_name, task_name};
+use crate::rows::Line;
 use csv::ByteRecord;
+use msrp_advice::{Shown, ShownRecord, field, res_name, task_name};
 use msrp_plan::{Plan, ResId, TaskId};
-use msrp_text::fields::{has_word, name_at, number_at};
+use msrp_text::fields::{has_word, name_at, number_at, number_of};
 use msrp_trace::TraceFault;
-use std::fmt;
+use std::fmt::{self, Formatter, Write};
 
-/// What the plan says of it, after the sentence.
+/// A refused record of a trace, in words: the code and the number of the record, the field that is wrong and what it must be, and the
+/// first fields of the record.
 #[derive(Clone, Copy)]
-enum Allowed {
-    Nothing,
-    FirstRecord,
-    Cores,
-    Ticks,
-    Tasks,
-    Resources,
+pub struct RefusedRecord<'a> {
+    pub plan: &'a Plan,
+    pub fault: TraceFault,
+    /// The number of the record, counted from 1.
+    pub number: u32,
+    /// The line in which it begins, where that is known.
+    pub line: Option<u64>,
+    /// The record; one without fields is the end of the text.
+    pub row: &'a ByteRecord,
 }
 
-/// What is wrong with a refused record: the field, counted from 0, where it is one, and in words.
-#[derive(Clone, Copy)]
-pub(crate) struct Misfit {
-    pub field: Option<usize>,
-    sentence: &'static str,
-    allowed: Allowed,
-    ghost seven: { IfSome field (λ i. i < 7) } by { Prim.hlevel props },
-}
+// What is wrong with a record, in words. A number in braces stands for that field, counted from 0; another word for what the plan allows.
+impl RefusedRecord<'_> {
+    fn has(&self, i: usize, word: &[u8]) -> bool {
+        has_word(self.row, i, word)
+    }
 
-impl Misfit {
-    fn of(sentence: &'static str) -> Misfit {
-        Misfit {
-            field: None,
-            sentence,
-            allowed: Allowed::Nothing,
+    fn is_none_at(&self, i: usize) -> bool {
+        self.has(i, b"-")
+    }
+
+    // R1
+    fn head(&self) -> &'static str {
+        if self.row.len() == 0 {
+            "the trace is empty; its first record must be {head}"
+        } else if self.has(0, b"msrp") {
+            "this is a plan; give the plan first, then the trace"
+        } else if !self.has(0, b"msrp-trace") || self.row.len() != 4 {
+            "the first record must be {head}"
+        } else if !self.has(1, b"1") && !self.has(1, b"2") {
+            "{1}unknown trace version; must be 1 or 2"
+        } else if number_at(self.row, 2) != Some(self.plan.cores()) {
+            "{2}wrong number of cores; the plan has {cores}"
+        } else {
+            "{3}wrong number of ticks; the plan has {ticks}"
         }
     }
 
-    fn at(field: usize, sentence: &'static str) -> Misfit
-        requires { field < 7 }
-    {
-        Misfit {
-            field: Some(field),
-            sentence,
-            allowed: Allowed::Nothing,
+    // R3
+    fn number(&self) -> &'static str {
+        if number_at(self.row, 0).is_none() || number_at(self.row, 1).is_none() {
+            "{odd}not a whole number: no sign, decimal point or leading zero, at most 9 digits"
+        } else if !self.is_none_at(4) && number_at(self.row, 4).is_none() {
+            "{4}the job must be - or a whole number; jobs are numbered from 0"
+        } else {
+            "{6}the queue length must be - or a whole number"
         }
     }
 
-    fn allowing(self, allowed: Allowed) -> Misfit {
-        Misfit {
-            field: self.field,
-            sentence: self.sentence,
-            allowed,
+    // R5
+    fn name(&self) -> &'static str {
+        if self.is_none_at(3) || self.plan.task_of(name_at(self.row, 3)).is_some() {
+            "{5}the plan has no resource of this name; its resources:{resources}"
+        } else {
+            "{3}the plan has no task of this name; its tasks:{tasks}"
         }
     }
-}
 
-fn is_none_at(row: &ByteRecord, i: usize) -> bool {
-    has_word(row, i, b"-")
-}
-
-// R1.
-fn head_misfit(plan: &Plan, row: &ByteRecord) -> Misfit {
-    if row.len() == 0 {
-        Misfit::of("the trace is empty; its first record must be ").allowing(Allowed::FirstRecord)
-    } else if has_word(row, 0, b"msrp") {
-        Misfit::of("this is a plan; give the plan first, then the trace")
-    } else if !has_word(row, 0, b"msrp-trace") || row.len() != 4 {
-        Misfit::of("the first record must be ").allowing(Allowed::FirstRecord)
-    } else if !has_word(row, 1, b"1") && !has_word(row, 1, b"2") {
-        Misfit::at(1, "unknown trace version; must be 1 or 2")
-    } else if number_at(row, 2) != Some(plan.cores()) {
-        Misfit::at(2, "wrong number of cores; the plan has ").allowing(Allowed::Cores)
-    } else {
-        Misfit::at(3, "wrong number of ticks; the plan has ").allowing(Allowed::Ticks)
+    // R6
+    fn shape(&self) -> &'static str {
+        let has_job = !self.is_none_at(3) && !self.is_none_at(4);
+        let has_res = !self.is_none_at(5);
+        let has_any = !self.is_none_at(3) || !self.is_none_at(4) || has_res;
+        match name_at(self.row, 2) {
+            "idle" if has_any => "{filled}an idle row has - as task, job and resource",
+            "run" if !has_job || has_res =>
+                "{empty}a run row has a task and a job, and - as resource",
+            "idle" | "run" => "{6}only a queue row has a queue length; must be -",
+            _ if !has_job || !has_res =>
+                "{empty}a row of this kind has a task, a job and a resource",
+            "queue" => "{6}a queue row of trace version 2 has a queue length",
+            _ => "{6}only a queue row has a queue length; must be -",
+        }
     }
-}
 
-// R3.
-fn number_misfit(row: &ByteRecord) -> Misfit {
-    let whole = "not a whole number: no sign, decimal point or leading zero, at most 9 digits";
-    if number_at(row, 0).is_none() {
-        Misfit::at(0, whole)
-    } else if number_at(row, 1).is_none() {
-        Misfit::at(1, whole)
-    } else if !is_none_at(row, 4) && number_at(row, 4).is_none() {
-        Misfit::at(
-            4,
-            "the job must be - or a whole number; jobs are numbered from 0",
+    fn sentence(&self) -> &'static str {
+        match self.fault {
+            TraceFault::Head => self.head(),
+            TraceFault::FieldCount =>
+                "wrong number of fields; a row has 6: tick,core,kind,task,job,resource; in trace version 2 a 7th: ahead",
+            TraceFault::Number => self.number(),
+            TraceFault::Kind =>
+                "{2}unknown kind; must be idle, run, lock, unlock, take, queue, spin, grant or release",
+            TraceFault::Name => self.name(),
+            TraceFault::Shape => self.shape(),
+            TraceFault::Read | TraceFault::Memory => "the trace can't be read",
+        }
+    }
+
+    // The field that is wrong, in front of what is said of it.
+    fn write_field<W: Write>(&self, f: &mut Formatter<W>, i: usize) -> fmt::Result {
+        write!(
+            f,
+            "field {} [{}]: ",
+            i.saturating_add(1),
+            Shown(field(self.row, i))
         )
-    } else {
-        Misfit::at(6, "the queue length must be - or a whole number")
     }
-}
 
-// R5.
-fn name_misfit(plan: &Plan, row: &ByteRecord) -> Misfit {
-    if is_none_at(row, 3) || plan.task_of(name_at(row, 3)).is_some() {
-        Misfit::at(5, "the plan has no resource of this name; its resources:").allowing(
-            Allowed::Resources,
-        )
-    } else {
-        Misfit::at(3, "the plan has no task of this name; its tasks:").allowing(Allowed::Tasks)
+    // The place from 3 to 5 that is `-`, or isn't: the first, else the last.
+    fn part(&self, is_none: bool) -> usize {
+        (3..5).find(|i| self.is_none_at(*i) == is_none).unwrap_or(5)
     }
-}
 
-// The first of the fields for a task, a job and a resource that should be `-`, or shouldn't.
-fn part_that(row: &ByteRecord, is_none: bool) -> usize
-    ensures { result < 7 }
-{
-    if is_none_at(row, 3) == is_none {
-        3
-    } else if is_none_at(row, 4) == is_none {
-        4
-    } else {
-        5
+    fn write_tasks<W: Write>(&self, f: &mut Formatter<W>) -> fmt::Result {
+        for task in 0..self.plan.tasks() {
+            write!(f, " {}", task_name(self.plan, TaskId(task)))?;
+        }
+        Ok(())
     }
-}
 
-// R6.
-fn shape_misfit(row: &ByteRecord) -> Misfit {
-    let has_job = !is_none_at(row, 3) && !is_none_at(row, 4);
-    let has_res = !is_none_at(row, 5);
-    let is_idle = has_word(row, 2, b"idle");
-    let is_run = has_word(row, 2, b"run");
-    if is_idle && !(is_none_at(row, 3) && is_none_at(row, 4) && !has_res) {
-        Misfit::at(
-            part_that(row, false),
-            "an idle row has - as task, job and resource",
-        )
-    } else if is_run && !(has_job && !has_res) {
-        Misfit::at(
-            part_that(row, true),
-            "a run row has a task and a job, and - as resource",
-        )
-    } else if !is_idle && !is_run && !(has_job && has_res) {
-        Misfit::at(
-            part_that(row, true),
-            "a row of this kind has a task, a job and a resource",
-        )
-    } else if has_word(row, 2, b"queue") {
-        Misfit::at(6, "a queue row of trace version 2 has a queue length")
-    } else {
-        Misfit::at(6, "only a queue row has a queue length; must be -")
+    fn write_resources<W: Write>(&self, f: &mut Formatter<W>) -> fmt::Result {
+        for res in 0..self.plan.resources() {
+            write!(f, " {}", res_name(self.plan, ResId(res)))?;
+        }
+        Ok(())
     }
-}
 
-/// What is wrong with a record that has this fault.
-pub(crate) fn misfit_of(plan: &Plan, fault: TraceFault, row: &ByteRecord) -> Misfit {
-    match fault {
-        TraceFault::Head => head_misfit(plan, row),
-        TraceFault::FieldCount => Misfit::of(
-            "wrong number of fields; a row has 6: tick,core,kind,task,job,resource; in trace version 2 a 7th: ahead",
-        ),
-        TraceFault::Number => number_misfit(row),
-        TraceFault::Kind => Misfit::at(
-            2,
-            "unknown kind; must be idle, run, lock, unlock, take, queue, spin, grant or release",
-        ),
-        TraceFault::Name => name_misfit(plan, row),
-        TraceFault::Shape => shape_misfit(row),
-        TraceFault::Read | TraceFault::Memory => Misfit::of("the trace can't be read"),
-    }
-}
-
-/// What is wrong, and what the plan allows.
-#[derive(Clone, Copy)]
-pub(crate) struct MisfitText<'a>(pub &'a Plan, pub Misfit);
-
-impl fmt::Display for MisfitText<'_> {
-    fn fmt<W: fmt::Write>(&self, f: &mut fmt::Formatter<W>) -> fmt::Result {
-        let MisfitText(plan, misfit) = *self;
-        let (cores, ticks) = (plan.cores(), plan.ticks());
-        f.write_str(misfit.sentence)?;
-        match misfit.allowed {
-            Allowed::FirstRecord => {
+    // What is in a hole.
+    fn fill<W: Write>(&self, f: &mut Formatter<W>, hole: &str) -> fmt::Result {
+        let (cores, ticks) = (self.plan.cores(), self.plan.ticks());
+        match hole {
+            "head" => {
                 write!(
                     f,
                     "msrp-trace,1,{cores},{ticks} or msrp-trace,2,{cores},{ticks}"
-                )?;
+                )
             }
-            Allowed::Cores => write!(f, "{cores}")?,
-            Allowed::Ticks => write!(f, "{ticks}")?,
-            Allowed::Tasks => {
-                for task in 0..plan.tasks() {
-                    write!(f, " {}", task_name(plan, TaskId(task)))?;
-                }
-            }
-            Allowed::Resources => {
-                for res in 0..plan.resources() {
-                    write!(f, " {}", res_name(plan, ResId(res)))?;
-                }
-            }
-            Allowed::Nothing => {}
+            "cores" => write!(f, "{cores}"),
+            "ticks" => write!(f, "{ticks}"),
+            "tasks" => self.write_tasks(f),
+            "resources" => self.write_resources(f),
+            "odd" => self.write_field(f, usize::from(number_at(self.row, 0).is_some())),
+            "empty" => self.write_field(f, self.part(true)),
+            "filled" => self.write_field(f, self.part(false)),
+            digit => match number_of(digit.as_bytes()) {
+                Some(i) => self.write_field(f, i as usize),
+                None => Ok(()),
+            },
         }
-        Ok(())
+    }
+}
+
+impl fmt::Display for RefusedRecord<'_> {
+    fn fmt<W: Write>(&self, f: &mut Formatter<W>) -> fmt::Result {
+        let number = self.number;
+        write!(f, "R{} at record {number}: ", self.fault.code())?;
+        for piece in self.sentence().split('}') {
+            match piece.split_once('{') {
+                Some((text, hole)) => {
+                    f.write_str(text)?;
+                    self.fill(f, hole)?;
+                }
+                None => f.write_str(piece)?,
+            }
+        }
+        let (line, shown) = (Line(self.line), ShownRecord(self.row));
+        writeln!(f, "\nrecord {number}{line}: {shown}")
     }
 }

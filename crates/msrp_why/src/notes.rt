@@ -1,17 +1,13 @@
-//! What is noted as rows are judged: of each resource the requests that are not released and the last change, of each core
-//! what decides its next turn. The memory grows with the plan, and not with the rows.
+//! What is noted as rows are judged: of each resource the requests that are not released and the last change, and what the turns
+//! met. The memory grows with the plan, and not with the rows.
 ghost use Rattle.std.specs.Prelude.{◌≡◌, ◌<◌, ◌++◌, ◌∷◌};
-ghost use Rattle.msrp_plan.specs.Common.{ForSome, IsSomeAnd, [], List, IfOk, None, length, true, vec_capacity, is_request, IsRunStart, log_of, PlanModel, IsPlan, list_any};
+ghost use Rattle.msrp_plan.specs.Common.{[], List, IfOk, length, true, is_request, IsRunStart, PlanModel, IsPlan, list_any};
 ghost use Rattle.msrp_plan.specs.declared.rows.Row.{Row as TraceRow};
-ghost use Rattle.msrp_audit.specs.Audits.{HasFed};
-ghost use Rattle.msrp_core.specs.CoreStates.{IsCoreState};
-ghost use Rattle.msrp_why.specs.Inside.Steps.{AreEmptyOf, IsCountStep, last_with, queue_with};
-ghost use Rattle.msrp_why.specs.Noted.{AreNoted, AreRowsNoted, AreStates};
-ghost use Rattle.msrp_why.specs.Exercise.{is_by, is_locker, is_opening, is_user, nests};
+ghost use Rattle.msrp_why.specs.Noted.{AreNoted, AreRowsNoted, IsStateAfter, is_by, is_locker, is_opening, is_user, nests};
+ghost use Rattle.msrp_why.specs.Inside.{AreEmptyOf, IsCountStep, last_with, queue_with};
 
 use crate::exercise::{ResourceCounts, TurnCounts};
 use arrayvec::ArrayVec;
-use msrp_audit::Auditor;
 use msrp_core::CoreState;
 use msrp_levels::Levels;
 use msrp_plan::limits::MOST_CORES;
@@ -122,8 +118,6 @@ pub struct Notes {
     pub last: Option<Numbered>,
     /// What the turns of the cores met.
     pub turns: TurnCounts,
-    /// What decides the next turn of each core, by its number.
-    pub states: Vec<CoreState>,
     /// The notes of each resource, by its number.
     pub resources: Vec<ResourceNotes>,
 }
@@ -133,44 +127,6 @@ fn is_opening(kind: Kind) -> bool
     ensures { result ≡ is_opening kind }
 {
     matches!(kind, Kind::Lock | Kind::Take | Kind::Queue)
-}
-
-// What decides the first turn of each core.
-fn states_of(alloc: Global, plan: &Plan, auditor: &Auditor<'_>) -> Result<Vec<CoreState>, Memory>
-    requires plan { auditor.now.plan ≡ plan.now }
-    requires fed { HasFed auditor.now [] }
-    ensures { IfOk result (λ states. AreStates plan.now [] states.items) }
-{
-    let count = plan.cores();
-    let mut states = Vec::with_capacity(alloc, count as usize)?;
-    for core in 0..count {
-        push_known(&mut states, auditor.state(CoreId(core)));
-    }
-    Ok(states)
-}
-
-// One more, if it is known.
-fn push_known(states: &mut Vec<CoreState>, known: Option<CoreState>)
-    requires { length states.old.items < vec_capacity states.old }
-    ensures added { ForSome known (λ s. states.new.items ≡ states.old.items ++ s ∷ []) }
-    ensures room { vec_capacity states.new ≡ vec_capacity states.old }
-{
-    if let Some(state) = known {
-        states.push_reserved(state);
-    }
-}
-
-// What decides the core's next turn after a row of it, which is legal and was fed to the auditor.
-fn note_state(states: &mut Vec<CoreState>, plan: &Plan, auditor: &Auditor<'_>, row: Row)
-    requires plan { auditor.now.plan ≡ plan.now }
-    ensures { (rows : List TraceRow) → IsRunStart plan.now (rows ++ row ∷ []) → HasFed auditor.now (rows ++ row ∷ []) → auditor.now.fault ≡ None → AreStates plan.now rows states.old.items → AreStates plan.now (rows ++ row ∷ []) states.new.items }
-{
-    let core = row.core.0 as usize;
-    if core < states.len() {
-        if let Some(state) = auditor.state(row.core) {
-            states[core] = state;
-        }
-    }
 }
 
 // What is noted of each resource before the first row.
@@ -190,17 +146,14 @@ fn resources_of(alloc: Global, plan: &Plan) -> Result<Vec<ResourceNotes>, Memory
 }
 
 impl Notes {
-    /// The notes before the first row, where the auditor judges the rows. All memory that they ever need is taken here.
-    pub fn with_room(alloc: Global, plan: &Plan, auditor: &Auditor<'_>) -> Result<Notes, Memory>
-        requires plan { auditor.now.plan ≡ plan.now }
-        requires fed { HasFed auditor.now [] }
+    /// The notes before the first row. All memory that they ever need is taken here.
+    pub fn with_room(alloc: Global, plan: &Plan) -> Result<Notes, Memory>
         ensures { IfOk result (AreNoted plan.now []) }
     {
         Ok(Notes {
             rows: 0,
             last: None,
             turns: TurnCounts::new(),
-            states: states_of(alloc, plan, auditor)?,
             resources: resources_of(alloc, plan)?,
         })
     }
@@ -226,7 +179,6 @@ impl Notes {
     fn note_row(&mut self, plan: &Plan, row: Row)
         requires { IsPlan plan.now }
         ensures turns { self.new.turns ≡ self.old.turns }
-        ensures states { self.new.states ≡ self.old.states }
         ensures rows { (rows : List TraceRow) → IsRunStart plan.now (rows ++ row ∷ []) → AreRowsNoted plan.now rows self.old → AreRowsNoted plan.now (rows ++ row ∷ []) self.new }
     {
         let number = self.rows.saturating_add(1);
@@ -239,27 +191,17 @@ impl Notes {
         }
     }
 
-    /// The notes after one row more, which is legal and was fed to the auditor.
-    pub fn note(&mut self, plan: &Plan, levels: &Levels<'_>, auditor: &Auditor<'_>, row: Row)
-        requires plan { auditor.now.plan ≡ plan.now }
-        requires levels { levels.now ≡ plan.now }
-        ensures { (rows : List TraceRow) → IsRunStart plan.now (rows ++ row ∷ []) → HasFed auditor.now (rows ++ row ∷ []) → auditor.now.fault ≡ None → AreNoted plan.now rows self.old → AreNoted plan.now (rows ++ row ∷ []) self.new }
+    /// The notes after one row more, which is legal, where the state of its core before it is known.
+    pub fn note(&mut self, plan: &Plan, levels: &Levels<'_>, state: Option<CoreState>, row: Row)
+        requires { levels.now ≡ plan.now }
+        ensures { (rows : List TraceRow) → IsRunStart plan.now (rows ++ row ∷ []) → IsStateAfter plan.now rows row.core.0 state → AreNoted plan.now rows self.old → AreNoted plan.now (rows ++ row ∷ []) self.new }
     {
         // Read so that the plan is known to be an accepted one.
         let _accepted = plan.cores();
-        if let Some(state) = self.state(row.core) {
+        if let Some(state) = state {
             let nested = self.nests(row);
             self.turns.note(plan, levels, state, nested, row);
-            note_state(&mut self.states, plan, auditor, row);
             self.note_row(plan, row);
         }
-    }
-
-    /// What decides the core's next turn; none of a core that the plan hasn't.
-    pub(crate) fn state(&self, core: CoreId) -> Option<CoreState>
-        ensures { (plan : PlanModel) (rows : List TraceRow) → AreNoted plan rows self.now → core.0 < plan.cores → IsSomeAnd result (IsCoreState plan core.0 (length (log_of core.0 rows)) rows) }
-    {
-        let known = self.states.get(core.0 as usize)?;
-        Some(*known)
     }
 }

@@ -1,69 +1,17 @@
-//! Rows, jobs and numbers as text. These texts and those of the other files that show are tested, and not proved.
+//! Rows, jobs and numbers as text. The texts of this crate are tested, and not proved.
 use crate::notes::Numbered;
-use msrp_plan::{JobId, Plan, ResId, Row, TaskId, TextVersion};
-use std::alloc::AllocError;
-use std::fmt;
-use std::str::from_utf8;
-
-/// A text was made, or memory ran out.
-pub type Made = Result<(), AllocError>;
-
-/// What is shown in place of a name that the plan lacks.
-const UNKNOWN: &str = "?";
-
-pub(crate) fn task_name(plan: &Plan, task: TaskId) -> &str {
-    if task.0 < plan.tasks() {
-        plan.task_name(task)
-    } else {
-        UNKNOWN
-    }
-}
-
-pub(crate) fn res_name(plan: &Plan, res: ResId) -> &str {
-    if res.0 < plan.resources() {
-        plan.res_name(res)
-    } else {
-        UNKNOWN
-    }
-}
-
-/// A number of things, as `1 row` or `12 rows`.
-#[derive(Clone, Copy)]
-pub(crate) struct Count(pub u64, pub &'static str);
-
-impl fmt::Display for Count {
-    fn fmt<W: fmt::Write>(&self, f: &mut fmt::Formatter<W>) -> fmt::Result {
-        let Count(number, noun) = *self;
-        let ending = if number == 1 { "" } else { "s" };
-        write!(f, "{number} {noun}{ending}")
-    }
-}
+use msrp_advice::{Count, Shown, res_name, task_name};
+use msrp_plan::{JobId, Plan, Row, TextVersion};
+use std::fmt::{self, Formatter, Write};
 
 /// The line of a record, where it is known.
 #[derive(Clone, Copy)]
 pub(crate) struct Line(pub Option<u64>);
 
 impl fmt::Display for Line {
-    fn fmt<W: fmt::Write>(&self, f: &mut fmt::Formatter<W>) -> fmt::Result {
+    fn fmt<W: Write>(&self, f: &mut Formatter<W>) -> fmt::Result {
         match self.0 {
             Some(line) => write!(f, ", line {line}"),
-            None => Ok(()),
-        }
-    }
-}
-
-/// A plan, and the version of the trace whose rows are shown.
-#[derive(Clone, Copy)]
-pub(crate) struct Shown<'a> {
-    pub plan: &'a Plan,
-    pub version: TextVersion,
-}
-
-impl Shown<'_> {
-    /// A line on a row, where there is one.
-    pub fn write_row(self, text: &mut String, title: &str, row: Option<Numbered>) -> Made {
-        match row {
-            Some(row) => writeln!(text, "{title}: {}", NumberedText(self, row)),
             None => Ok(()),
         }
     }
@@ -74,15 +22,14 @@ impl Shown<'_> {
 pub(crate) struct Size<'a>(pub &'a Plan);
 
 impl fmt::Display for Size<'_> {
-    fn fmt<W: fmt::Write>(&self, f: &mut fmt::Formatter<W>) -> fmt::Result {
+    fn fmt<W: Write>(&self, f: &mut Formatter<W>) -> fmt::Result {
         let (cores, ticks) = (u64::from(self.0.cores()), u64::from(self.0.ticks()));
-        let rows = Count(cores * ticks, "row");
-        write!(
-            f,
-            "{rows} ({}, {})",
-            Count(cores, "core"),
-            Count(ticks, "tick")
-        )
+        let rows = Count(u128::from(cores * ticks), "row");
+        let (cores, ticks) = (
+            Count(u128::from(cores), "core"),
+            Count(u128::from(ticks), "tick"),
+        );
+        write!(f, "{rows} ({cores}, {ticks})")
     }
 }
 
@@ -91,30 +38,28 @@ impl fmt::Display for Size<'_> {
 pub(crate) struct JobText<'a>(pub &'a Plan, pub JobId);
 
 impl fmt::Display for JobText<'_> {
-    fn fmt<W: fmt::Write>(&self, f: &mut fmt::Formatter<W>) -> fmt::Result {
-        let JobText(plan, job) = *self;
-        write!(f, "{},{}", task_name(plan, job.task), job.k)
+    fn fmt<W: Write>(&self, f: &mut Formatter<W>) -> fmt::Result {
+        write!(f, "{},{}", task_name(self.0, self.1.task), self.1.k)
     }
 }
 
-/// A row as the record of the trace.
+/// A row as a record of a trace of this version.
 #[derive(Clone, Copy)]
-pub(crate) struct RowText<'a>(pub Shown<'a>, pub Row);
+pub(crate) struct RowText<'a>(pub &'a Plan, pub TextVersion, pub Row);
 
 impl fmt::Display for RowText<'_> {
-    fn fmt<W: fmt::Write>(&self, f: &mut fmt::Formatter<W>) -> fmt::Result {
-        let RowText(shown, row) = *self;
-        let kind = from_utf8(row.kind.word()).unwrap_or(UNKNOWN);
-        write!(f, "{},{},{kind},", row.tick, row.core.0)?;
+    fn fmt<W: Write>(&self, f: &mut Formatter<W>) -> fmt::Result {
+        let RowText(plan, version, row) = *self;
+        write!(f, "{},{},{},", row.tick, row.core.0, Shown(row.kind.word()))?;
         match row.job {
-            Some(job) => write!(f, "{}", JobText(shown.plan, job))?,
-            None => f.write_str("-,-")?,
+            Some(job) => write!(f, "{},", JobText(plan, job))?,
+            None => f.write_str("-,-,")?,
         }
         match row.res {
-            Some(res) => write!(f, ",{}", res_name(shown.plan, res))?,
-            None => f.write_str(",-")?,
+            Some(res) => f.write_str(res_name(plan, res))?,
+            None => f.write_str("-")?,
         }
-        match (shown.version, row.ahead) {
+        match (version, row.ahead) {
             (TextVersion::V2, Some(ahead)) => write!(f, ",{ahead}"),
             (TextVersion::V2, None) => f.write_str(",-"),
             (TextVersion::V1, _) => Ok(()),
@@ -122,18 +67,23 @@ impl fmt::Display for RowText<'_> {
     }
 }
 
-/// A row with its number.
+/// A row with its number on a line after a title. There need not be one.
 #[derive(Clone, Copy)]
-pub(crate) struct NumberedText<'a>(pub Shown<'a>, pub Numbered);
+pub(crate) struct RowLine<'a>(
+    pub &'a str,
+    pub &'a Plan,
+    pub TextVersion,
+    pub Option<Numbered>,
+);
 
-impl fmt::Display for NumberedText<'_> {
-    fn fmt<W: fmt::Write>(&self, f: &mut fmt::Formatter<W>) -> fmt::Result {
-        let NumberedText(shown, numbered) = *self;
-        write!(
-            f,
-            "row {}: {}",
-            numbered.number,
-            RowText(shown, numbered.row)
-        )
+impl fmt::Display for RowLine<'_> {
+    fn fmt<W: Write>(&self, f: &mut Formatter<W>) -> fmt::Result {
+        let RowLine(title, plan, version, row) = *self;
+        match row {
+            Some(Numbered { number, row }) => {
+                writeln!(f, "{title} row {number}: {}", RowText(plan, version, row))
+            }
+            None => Ok(()),
+        }
     }
 }

@@ -1,15 +1,14 @@
-//! A cause as text: the row, the rule, what was expected, and the facts that decide it.
+//! A cause in words: the row, the rule, what was expected, and the facts that decide it.
 ghost use Rattle.std.specs.Prelude.{◌≡◌};
-ghost use Rattle.msrp_plan.specs.Common.{OnErr, OnOk, WroteSome};
 
 use crate::causes::Cause;
 use crate::exercise::{is_job_of, units_done};
 use crate::notes::{Notes, Numbered, ResourceNotes};
-use crate::rows::{Count, JobText, Line, Made, NumberedText, RowText, Shown, Size, res_name};
+use crate::rows::{JobText, Line, RowLine, RowText, Size};
+use msrp_advice::{Count, res_name};
 use msrp_levels::Levels;
-use msrp_plan::bytes::Sink;
-use msrp_plan::{CoreId, Fault, JobId, Kind, Plan, ResId, Row, Rule, TextVersion};
-use std::io::Write;
+use msrp_plan::{Fault, JobId, Kind, Plan, ResId, Row, Rule, TextVersion};
+use std::fmt::{self, Formatter, Write};
 
 fn sentence(rule: Rule) -> &'static str {
     match rule {
@@ -24,68 +23,84 @@ fn sentence(rule: Rule) -> &'static str {
     }
 }
 
+/// Why a row is refused, in words: which row it is, the rule, what was expected, and the facts that decide it. Rows are shown as in a
+/// trace of this version.
 #[derive(Clone, Copy)]
-struct Why<'a> {
-    shown: Shown<'a>,
+pub struct Why<'a> {
+    plan: &'a Plan,
     levels: &'a Levels<'a>,
+    version: TextVersion,
     cause: &'a Cause,
-    ghost same: { levels.now ≡ shown.plan.now },
+    ghost same: { levels.now ≡ plan.now },
 }
 
-impl Why<'_> {
+impl<'a> Why<'a> {
+    pub fn new(
+        plan: &'a Plan,
+        levels: &'a Levels<'a>,
+        version: TextVersion,
+        cause: &'a Cause,
+    ) -> Why<'a>
+        requires { levels.now ≡ plan.now }
+    {
+        Why {
+            plan,
+            levels,
+            version,
+            cause,
+        }
+    }
+
+    fn job(&self, job: JobId) -> JobText<'a> {
+        JobText(self.plan, job)
+    }
+
+    fn line(&self, title: &'a str, row: Option<Numbered>) -> RowLine<'a> {
+        RowLine(title, self.plan, self.version, row)
+    }
+
     // A1: what is wrong with the row.
-    fn write_misplaced(&self, text: &mut String, tick: u32) -> Made {
-        let cores = self.shown.plan.cores();
-        let Row {
-            tick: own,
-            core,
-            ..
-        } = self.cause.row;
-        let core = core.0;
+    fn write_misplaced<W: Write>(&self, f: &mut Formatter<W>, tick: u32) -> fmt::Result {
+        let cores = self.plan.cores();
+        let (own, core) = (self.cause.row.tick, self.cause.row.core.0);
         if core >= cores {
-            let cores = Count(u64::from(cores), "core");
-            write!(text, "; there is no core {core}, the plan has {cores}")
+            let cores = Count(u128::from(cores), "core");
+            write!(f, "; there is no core {core}, the plan has {cores}")
         } else if own > tick {
-            write!(text, "; tick {tick} is not complete")
+            write!(f, "; tick {tick} is not complete")
         } else if own < tick {
-            write!(text, "; tick {own} is already complete")
+            write!(f, "; tick {own} is already complete")
         } else {
-            write!(text, "; core {core} already has its row of tick {tick}")
+            write!(f, "; core {core} already has its row of tick {tick}")
         }
     }
 
     // A1: the cores that have a row of the tick still to come.
-    fn write_turns(&self, text: &mut String, tick: u32) -> Made {
+    fn write_turns<W: Write>(&self, f: &mut Formatter<W>, tick: u32) -> fmt::Result {
         let turns = &self.cause.turns;
-        write!(text, "expected: a row of tick {tick} from ")?;
+        write!(f, "expected: a row of tick {tick} from ")?;
         for (i, core) in turns.iter().enumerate() {
             let comma = match i {
                 0 => "",
                 _ if i + 1 == turns.len() => " or ",
                 _ => ", ",
             };
-            write!(text, "{comma}core {core}")?;
+            write!(f, "{comma}core {core}")?;
         }
-        writeln!(text)?;
-        self.shown
-            .write_row(text, "previous row", self.cause.notes.last)
+        write!(f, "\n{}", self.line("previous row:", self.cause.notes.last))
     }
 
     // A2: the task's core and jobs.
-    fn write_owner(&self, text: &mut String) -> Made {
-        let plan = self.shown.plan;
+    fn write_owner<W: Write>(&self, f: &mut Formatter<W>) -> fmt::Result {
+        let plan = self.plan;
         match self.cause.row.job {
-            Some(job) if job.task.0 < plan.tasks() => {
-                let name = plan.task_name(job.task);
-                write!(
-                    text,
-                    "task {name} is assigned to core {}",
-                    plan.core_of(job.task).0
-                )?;
-                match plan.jobs(job.task) {
-                    0 => writeln!(text, " and has no job within the plan"),
-                    1 => writeln!(text, " and has one job within the plan: job 0"),
-                    n => writeln!(text, " and has {n} jobs within the plan: 0 to {}", n - 1),
+            Some(JobId { task, .. }) if task.0 < plan.tasks() => {
+                let (name, core) = (plan.task_name(task), plan.core_of(task).0);
+                write!(f, "task {name} is assigned to core {core}")?;
+                match plan.jobs(task) {
+                    0 => writeln!(f, " and has no job within the plan"),
+                    1 => writeln!(f, " and has one job within the plan: job 0"),
+                    n => writeln!(f, " and has {n} jobs within the plan: 0 to {}", n - 1),
                 }
             }
             _ => Ok(()),
@@ -93,105 +108,98 @@ impl Why<'_> {
     }
 
     // A job with what decides whether it runs.
-    fn write_job(&self, text: &mut String, title: &str, job: Option<JobId>) -> Made {
-        let plan = self.shown.plan;
+    fn write_job<W: Write>(
+        &self,
+        f: &mut Formatter<W>,
+        title: &str,
+        job: Option<JobId>,
+    ) -> fmt::Result {
         match job {
-            Some(job) if is_job_of(plan, job) => {
-                let key = plan.job_key(job);
-                let level = self.levels.level(job.task);
-                let (release, deadline) = (key.release, key.deadline);
-                write!(
-                    text,
-                    "{title}: {} (preemption level {level}",
-                    JobText(plan, job)
-                )?;
-                writeln!(
-                    text,
-                    ", released at tick {release}, absolute deadline {deadline})"
-                )
+            Some(job) if is_job_of(self.plan, job) => {
+                let key = self.plan.job_key(job);
+                let (text, level) = (self.job(job), self.levels.level(job.task));
+                write!(f, "{title}: {text} (preemption level {level}, ")?;
+                write!(f, "released at tick {}, ", key.release)?;
+                writeln!(f, "absolute deadline {})", key.deadline)
             }
-            _ => writeln!(text, "{title}: none"),
+            _ => writeln!(f, "{title}: none"),
         }
     }
 
     // A3: the job that was found, the job that runs, the head and the ceiling.
-    fn write_choice(&self, text: &mut String) -> Made {
+    fn write_choice<W: Write>(&self, f: &mut Formatter<W>) -> fmt::Result {
         let Row { core, job, .. } = self.cause.row;
         match job {
-            Some(_) => self.write_job(text, "found", job)?,
-            None => writeln!(text, "found: core {} idle", core.0)?,
+            Some(_) => self.write_job(f, "found", job)?,
+            None => writeln!(f, "found: core {} idle", core.0)?,
         }
         if let Some(state) = self.cause.state {
-            self.write_job(text, "running", state.running)?;
-            self.write_job(text, "head of the ready queue", state.head)?;
-            writeln!(text, "ceiling of core {}: {}", core.0, state.ceiling)?;
+            self.write_job(f, "running", state.running)?;
+            self.write_job(f, "head of the ready queue", state.head)?;
+            writeln!(f, "ceiling of core {}: {}", core.0, state.ceiling)?;
         }
-        self.write_uses(text)
+        self.write_uses(f)
     }
 
     // A4: the job, and how far it is.
-    fn write_progress(&self, text: &mut String) -> Made {
-        let plan = self.shown.plan;
-        self.write_job(text, "job", self.cause.row.job)?;
-        if let (Some(state), Some(job)) = (self.cause.state, self.cause.row.job) {
-            if job.task.0 < plan.tasks() {
-                let done = units_done(state, job);
-                writeln!(text, "units done: {done} of {}", plan.units(job.task))?;
+    fn write_progress<W: Write>(&self, f: &mut Formatter<W>) -> fmt::Result {
+        self.write_job(f, "job", self.cause.row.job)?;
+        match (self.cause.state, self.cause.row.job) {
+            (Some(state), Some(job)) if job.task.0 < self.plan.tasks() => {
+                let (done, units) = (units_done(state, job), self.plan.units(job.task));
+                writeln!(f, "units done: {done} of {units}")?;
             }
+            _ => {}
         }
-        self.write_uses(text)
+        self.write_uses(f)
     }
 
     // What the core holds or awaits.
-    fn write_uses(&self, text: &mut String) -> Made {
-        let core = self.cause.row.core;
-        let numbers = 0..self.shown.plan.resources();
+    fn write_uses<W: Write>(&self, f: &mut Formatter<W>) -> fmt::Result {
+        let numbers = 0..self.plan.resources();
         for (res, notes) in numbers.zip(self.cause.notes.resources.iter()) {
-            let res = ResId(res);
             match notes.last {
-                Some(last) if last.row.kind == Kind::Lock && last.row.core == core => {
-                    self.write_use(text, res, last)?;
-                }
+                Some(last) if last.row.kind == Kind::Lock => self.write_use(f, ResId(res), last)?,
                 _ => {}
             }
-            for request in notes
-                .queue
-                .iter()
-                .filter(|request| request.row.core == core)
-            {
-                self.write_use(text, res, *request)?;
+            for request in notes.queue.iter() {
+                self.write_use(f, ResId(res), *request)?;
             }
         }
         Ok(())
     }
 
-    // A resource that a job of the core holds or awaits since a row, and what that does to the core's ceiling.
-    fn write_use(&self, text: &mut String, res: ResId, since: Numbered) -> Made {
-        let name = res_name(self.shown.plan, res);
-        let Numbered { number, row } = since;
+    // A resource that a job holds or awaits since a row, if it is one of the core, and what that does to the core's ceiling.
+    fn write_use<W: Write>(
+        &self,
+        f: &mut Formatter<W>,
+        res: ResId,
+        since: Numbered,
+    ) -> fmt::Result {
+        let (name, row) = (res_name(self.plan, res), since.row);
+        if row.core != self.cause.row.core {
+            return Ok(());
+        }
         if let Some(job) = row.job {
-            write!(text, "{} ", JobText(self.shown.plan, job))?;
+            write!(f, "{} ", self.job(job))?;
         }
-        if row.kind != Kind::Queue {
-            write!(
-                text,
-                "has held {name} since tick {} (row {number})",
-                row.tick
-            )?;
-        } else if self.awaits(res) {
-            write!(
-                text,
-                "has been waiting for {name} since tick {} (row {number})",
-                row.tick
-            )?;
-        } else {
-            write!(
-                text,
-                "holds {name}, requested at tick {} (row {number})",
-                row.tick
-            )?;
+        let (verb, link) = match row.kind {
+            Kind::Queue if self.awaits(res) => ("has been waiting for", " since"),
+            Kind::Queue => ("holds", ", requested at"),
+            _ => ("has held", " since"),
+        };
+        let (tick, number) = (row.tick, since.number);
+        write!(f, "{verb} {name}{link} tick {tick} (row {number})")?;
+        if res.0 >= self.plan.resources() || row.core.0 >= self.plan.cores() {
+            return writeln!(f);
         }
-        self.write_ceiling(text, res, row.core)
+        let (core, ceiling) = (row.core.0, self.levels.ceiling(res, row.core));
+        match self.cause.state {
+            Some(state) if state.ceiling == ceiling => {
+                writeln!(f, "; this raises the ceiling of core {core} to {ceiling}")
+            }
+            _ => writeln!(f, "; its ceiling on core {core} is {ceiling}"),
+        }
     }
 
     // Whether the core's job waits for the resource: its expected row is a poll.
@@ -202,150 +210,96 @@ impl Why<'_> {
         }
     }
 
-    fn write_ceiling(&self, text: &mut String, res: ResId, core: CoreId) -> Made {
-        let plan = self.shown.plan;
-        if res.0 >= plan.resources() || core.0 >= plan.cores() {
-            return writeln!(text);
-        }
-        let (core, ceiling) = (core.0, self.levels.ceiling(res, core));
-        match self.cause.state {
-            Some(state) if state.ceiling == ceiling => {
-                writeln!(
-                    text,
-                    "; this raises the ceiling of core {core} to {ceiling}"
-                )
-            }
-            _ => writeln!(text, "; its ceiling on core {core} is {ceiling}"),
-        }
-    }
-
     // A5: the queue, in order, and the last release.
-    fn write_reply(&self, text: &mut String) -> Made {
-        let Some(res) = self.cause.row.res else {
-            return Ok(());
-        };
-        match self.cause.notes.resources.get(res.0 as usize) {
-            Some(notes) => self.write_queue(text, res_name(self.shown.plan, res), notes),
-            None => Ok(()),
-        }
-    }
-
-    fn write_queue(&self, text: &mut String, name: &str, notes: &ResourceNotes) -> Made {
-        let shown = self.shown;
-        let order = if notes.queue.is_empty() {
+    fn write_queue<W: Write>(
+        &self,
+        f: &mut Formatter<W>,
+        name: &str,
+        notes: &ResourceNotes,
+    ) -> fmt::Result {
+        let is_empty = notes.queue.is_empty();
+        let order = if is_empty {
             ": empty"
         } else {
             ", first to last:"
         };
-        writeln!(text, "queue of {name} before this row{order}")?;
+        writeln!(f, "queue of {name} before this row{order}")?;
         for request in notes.queue.iter() {
             if let Some(job) = request.row.job {
-                write!(text, "  {} since ", JobText(shown.plan, job))?;
+                write!(f, "  {} ", self.job(job))?;
             }
-            writeln!(text, "{}", NumberedText(shown, *request))?;
+            write!(f, "{}", self.line("since", Some(*request)))?;
         }
+        write!(f, "last release of {name}:")?;
         match notes.last {
-            Some(last) => writeln!(
-                text,
-                "last release of {name}: {}",
-                NumberedText(shown, last)
-            )?,
-            None => writeln!(text, "last release of {name}: none")?,
+            Some(_) => write!(f, "{}", self.line("", notes.last))?,
+            None => writeln!(f, " none")?,
         }
-        let is_queued = notes
-            .queue
-            .iter()
-            .any(|request| request.row.kind == Kind::Queue);
-        if is_queued && shown.version == TextVersion::V1 {
-            text.push_str("note: this trace has no 'ahead' column; with it (trace version 2) ")?;
-            text.push_str("a request that jumps the queue is itself reported\n")?;
+        let mut requests = notes.queue.iter();
+        let is_queued = requests.any(|request| request.row.kind == Kind::Queue);
+        if is_queued && self.version == TextVersion::V1 {
+            f.write_str("note: this trace has no 'ahead' column; with it (trace version 2) ")?;
+            f.write_str("a request that jumps the queue is itself reported\n")?;
         }
         Ok(())
     }
 
-    fn write_expected(&self, text: &mut String) -> Made {
-        match self.cause.expected {
-            Some(row) => writeln!(text, "expected: {}", RowText(self.shown, row)),
-            None => Ok(()),
-        }
-    }
-
-    fn write_all(&self, text: &mut String) -> Made {
-        let (cause, shown) = (self.cause, self.shown);
-        let Fault { row, rule } = cause.fault;
-        let tick = row.saturating_sub(1) / shown.plan.cores();
-        let record = u64::from(row) + 1;
-        let (line, found) = (Line(cause.line), RowText(shown, cause.row));
-        writeln!(text, "row {row} (record {record}{line}): {found}")?;
-        text.push_str(sentence(rule))?;
-        if rule == Rule::A1 {
-            self.write_misplaced(text, tick)?;
-        }
-        writeln!(text)?;
-        self.write_expected(text)?;
-        match rule {
-            Rule::A1 => self.write_turns(text, tick),
-            Rule::A2 => self.write_owner(text),
-            Rule::A3 => self.write_choice(text),
-            Rule::A4 => self.write_progress(text),
-            Rule::A5 => self.write_reply(text),
-            Rule::A6 | Rule::A7 => {
-                writeln!(
-                    text,
-                    "expected: the end of the trace after {}",
-                    Size(shown.plan)
-                )?;
-                shown.write_row(text, "previous row", cause.notes.last)
+    // The facts that decide.
+    fn write_facts<W: Write>(&self, f: &mut Formatter<W>, tick: u32) -> fmt::Result {
+        let (cause, plan) = (self.cause, self.plan);
+        match (cause.fault.rule, cause.row.res) {
+            (Rule::A1, _) => self.write_turns(f, tick),
+            (Rule::A2, _) => self.write_owner(f),
+            (Rule::A3, _) => self.write_choice(f),
+            (Rule::A4, _) => self.write_progress(f),
+            (Rule::A5, Some(res)) => match cause.notes.resources.get(res.0 as usize) {
+                Some(notes) => self.write_queue(f, res_name(plan, res), notes),
+                None => Ok(()),
+            },
+            (Rule::A5, None) => Ok(()),
+            (Rule::A6 | Rule::A7, _) => {
+                writeln!(f, "expected: the end of the trace after {}", Size(plan))?;
+                write!(f, "{}", self.line("previous row:", cause.notes.last))
             }
         }
     }
 }
 
-/// Writes why a row is refused: which row it is, the rule, what was expected, and the facts that decide it. Rows are shown as
-/// in a trace of this version. The text is made in `text`.
-pub fn write_cause<W: Write>(
-    out: &mut Sink<W>,
-    plan: &Plan,
-    levels: &Levels<'_>,
-    version: TextVersion,
-    cause: &Cause,
-    text: &mut String,
-) -> Made
-    requires levels { levels.now ≡ plan.now }
-    ensures memory { OnErr result (out.new ≡ out.old) }
-    ensures some { OnOk result (WroteSome W.contents out.old out.new) }
-{
-    let shown = Shown { plan, version };
-    let why = Why {
-        shown,
-        levels,
-        cause,
-    };
-    text.clear();
-    why.write_all(text)?;
-    out.add(text.as_bytes());
-    Ok(())
+impl fmt::Display for Why<'_> {
+    fn fmt<W: Write>(&self, f: &mut Formatter<W>) -> fmt::Result {
+        let (cause, plan) = (self.cause, self.plan);
+        let Fault { row, rule } = cause.fault;
+        let tick = row.saturating_sub(1) / plan.cores();
+        let (record, line) = (u64::from(row) + 1, Line(cause.line));
+        let found = RowText(plan, self.version, cause.row);
+        writeln!(f, "row {row} (record {record}{line}): {found}")?;
+        f.write_str(sentence(rule))?;
+        if rule == Rule::A1 {
+            self.write_misplaced(f, tick)?;
+        }
+        f.write_char('\n')?;
+        if let Some(expected) = cause.expected {
+            writeln!(f, "expected: {}", RowText(plan, self.version, expected))?;
+        }
+        self.write_facts(f, tick)
+    }
 }
 
-/// Writes that rows are missing: how many are expected and found, and the last of them. The text is made in `text`.
-pub fn write_missing<W: Write>(
-    out: &mut Sink<W>,
-    plan: &Plan,
-    version: TextVersion,
-    notes: &Notes,
-    text: &mut String,
-) -> Made
-    ensures memory { OnErr result (out.new ≡ out.old) }
-    ensures some { OnOk result (WroteSome W.contents out.old out.new) }
-{
-    text.clear();
-    let (expected, found) = (Size(plan), Count(u64::from(notes.rows), "row"));
-    writeln!(
-        text,
-        "{}\nexpected: {expected}\nfound: {found}",
-        sentence(Rule::A6)
-    )?;
-    Shown { plan, version }.write_row(text, "last row", notes.last)?;
-    out.add(text.as_bytes());
-    Ok(())
+/// That rows are missing, in words: how many are expected and found, and the last of them. Rows are shown as in a trace of this version.
+#[derive(Clone, Copy)]
+pub struct Missing<'a> {
+    pub plan: &'a Plan,
+    pub version: TextVersion,
+    pub notes: &'a Notes,
+}
+
+impl fmt::Display for Missing<'_> {
+    fn fmt<W: Write>(&self, f: &mut Formatter<W>) -> fmt::Result {
+        let (plan, notes) = (self.plan, self.notes);
+        let (expected, found) = (Size(plan), Count(u128::from(notes.rows), "row"));
+        writeln!(f, "{}", sentence(Rule::A6))?;
+        writeln!(f, "expected: {expected}\nfound: {found}")?;
+        let last = RowLine("last row:", plan, self.version, notes.last);
+        write!(f, "{last}")
+    }
 }

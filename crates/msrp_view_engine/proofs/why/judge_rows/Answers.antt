@@ -7,6 +7,7 @@ use Rattle.msrp_trace.proofs.ReadThrough.{none-read, read-row}
 use Rattle.msrp_why.proofs.Causing.{good_start}
 use Rattle.msrp_engine.proofs.Judging.{fewer-left}
 use Rattle.msrp_view_engine.proofs.Explaining.{cause-found, end-found, line-found, refusal-judged}
+use Rattle.msrp_why.specs.Noted.{IsStateAfter}
 use Rattle.msrp_view_engine.proofs.why.judge_rows.Goals as goal
 
 pub loop-notes-init : goal.loop-notes-init
@@ -17,6 +18,7 @@ pub returns-then-not-is_in_turn-clause-found : goal.returns-then-not-is_in_turn-
 returns-then-not-is_in_turn-clause-found g c = λ told known.
     let i = c.loop-notes.invariant in
     let row = c.in-Some.row in
+    let state = subst (λ (p : PlanModel). IsStateAfter p i.0 row.core.0 c.state-state.result) i.1 (c.state-state.ensures i.0 i.2 i.3) in
     let good = subst (λ (p : PlanModel). fault_in p i.0 ≡ None) i.1 (sym i.2.fault ∙ i.3) in
     let not : c.is_in_turn.result ≡ false = cc in
     let out : IsOutOfTurn c.loop-notes.auditor.plan i.0 row = λ left. sym (c.is_in_turn.ensures.turn i.0 i.2 i.3 left) ∙ not in
@@ -24,12 +26,13 @@ returns-then-not-is_in_turn-clause-found g c = λ told known.
     record { fault = c.fault_out_of_turn-fault.ensures i.0 row i.2 i.3 out; turn = λ left turn. absurd (true≢false (sym turn ∙ out left)); out = λ _. (i.2, i.3) } in
     let told_so = subst (λ (p : PlanModel). IsBroken p i.0 row c.fault_out_of_turn-fault.result None c.loop-notes.auditor) i.1 broken in
     let more = read-row told i.0 _ _ c.next_foreseen.result row (i.4 told known) c.next_foreseen.ensures.next (c.in_ok-row.was ∙ ap (λ x. Ok x) c.in-Some.is) in
-    cause-found c.args.plan.now told i.0 row _ c.fault_out_of_turn-fault.result c.cause_of.result more told_so.fault (c.cause_of.ensures.cause i.0 good told_so i.5)
+    cause-found c.args.plan.now told i.0 row _ c.fault_out_of_turn-fault.result c.cause_of.result more told_so.fault (c.cause_of.ensures.cause i.0 good told_so i.5 state)
 
 pub returns-then-not-is_in_turn-clause-line : goal.returns-then-not-is_in_turn-clause-line
 returns-then-not-is_in_turn-clause-line g c = λ bytes read.
     let i = c.loop-notes.invariant in
     let row = c.in-Some.row in
+    let state = subst (λ (p : PlanModel). IsStateAfter p i.0 row.core.0 c.state-state.result) i.1 (c.state-state.ensures i.0 i.2 i.3) in
     let good = subst (λ (p : PlanModel). fault_in p i.0 ≡ None) i.1 (sym i.2.fault ∙ i.3) in
     let not : c.is_in_turn.result ≡ false = cc in
     let out : IsOutOfTurn c.loop-notes.auditor.plan i.0 row = λ left. sym (c.is_in_turn.ensures.turn i.0 i.2 i.3 left) ∙ not in
@@ -37,7 +40,7 @@ returns-then-not-is_in_turn-clause-line g c = λ bytes read.
     record { fault = c.fault_out_of_turn-fault.ensures i.0 row i.2 i.3 out; turn = λ left turn. absurd (true≢false (sym turn ∙ out left)); out = λ _. (i.2, i.3) } in
     let told_so = subst (λ (p : PlanModel). IsBroken p i.0 row c.fault_out_of_turn-fault.result None c.loop-notes.auditor) i.1 broken in
     let behind = subst (λ r. HasReadBehind g.T.Read.remaining bytes r c.next_foreseen.new.self) (c.in_ok-row.was ∙ ap (λ x. Ok x) c.in-Some.is) (c.next_foreseen.ensures.lines bytes (i.6 bytes read)) in
-    line-found c.args.plan.now i.0 row c.fault_out_of_turn-fault.result c.cause_of.result bytes _ told_so.fault (c.cause_of.ensures.cause i.0 good told_so i.5) c.cause_of.ensures.line (c.line_of_row-line.ensures bytes behind)
+    line-found c.args.plan.now i.0 row c.fault_out_of_turn-fault.result c.cause_of.result bytes _ told_so.fault (c.cause_of.ensures.cause i.0 good told_so i.5 state) c.cause_of.ensures.line (c.line_of_row-line.ensures bytes behind)
 
 -- ---- the end, and an error of the reader
 pub returns-in_err-row-clause-found : goal.returns-in_err-row-clause-found
@@ -66,6 +69,7 @@ pub returns-in-Err-clause-found : goal.returns-in-Err-clause-found
 returns-in-Err-clause-found g c = λ told known.
     let i = c.loop-notes.invariant in
     let row = c.in-Some.row in
+    let state = subst (λ (p : PlanModel). IsStateAfter p i.0 row.core.0 c.state-state.result) i.1 (c.state-state.ensures i.0 i.2 i.3) in
     let p = c.loop-notes.auditor.plan in
     let good = subst (λ (p : PlanModel). fault_in p i.0 ≡ None) i.1 (sym i.2.fault ∙ i.3) in
     let turned : c.is_in_turn.result ≡ true = cc in
@@ -81,12 +85,13 @@ returns-in-Err-clause-found g c = λ told known.
     } in
     let broken = subst (λ (p : PlanModel). IsBroken p i.0 row c.in-Err.fault (Some c.turn-due.result) c.judge.new.self) (c.turn-due.ensures.plan ∙ i.1) at in
     let more = read-row told i.0 _ _ c.next_foreseen.result row (i.4 told known) c.next_foreseen.ensures.next (c.in_ok-row.was ∙ ap (λ x. Ok x) c.in-Some.is) in
-    cause-found c.args.plan.now told i.0 row _ c.in-Err.fault c.cause_of-in-Err.result more broken.fault (c.cause_of-in-Err.ensures.cause i.0 good broken i.5)
+    cause-found c.args.plan.now told i.0 row _ c.in-Err.fault c.cause_of-in-Err.result more broken.fault (c.cause_of-in-Err.ensures.cause i.0 good broken i.5 state)
 
 pub returns-in-Err-clause-line : goal.returns-in-Err-clause-line
 returns-in-Err-clause-line g c = λ bytes read.
     let i = c.loop-notes.invariant in
     let row = c.in-Some.row in
+    let state = subst (λ (p : PlanModel). IsStateAfter p i.0 row.core.0 c.state-state.result) i.1 (c.state-state.ensures i.0 i.2 i.3) in
     let p = c.loop-notes.auditor.plan in
     let good = subst (λ (p : PlanModel). fault_in p i.0 ≡ None) i.1 (sym i.2.fault ∙ i.3) in
     let turned : c.is_in_turn.result ≡ true = cc in
@@ -102,7 +107,7 @@ returns-in-Err-clause-line g c = λ bytes read.
     } in
     let broken = subst (λ (p : PlanModel). IsBroken p i.0 row c.in-Err.fault (Some c.turn-due.result) c.judge.new.self) (c.turn-due.ensures.plan ∙ i.1) at in
     let behind = subst (λ r. HasReadBehind g.T.Read.remaining bytes r c.next_foreseen.new.self) (c.in_ok-row.was ∙ ap (λ x. Ok x) c.in-Some.is) (c.next_foreseen.ensures.lines bytes (i.6 bytes read)) in
-    line-found c.args.plan.now i.0 row c.in-Err.fault c.cause_of-in-Err.result bytes _ broken.fault (c.cause_of-in-Err.ensures.cause i.0 good broken i.5) c.cause_of-in-Err.ensures.line (c.line_of_row-line-in-Err.ensures bytes behind)
+    line-found c.args.plan.now i.0 row c.in-Err.fault c.cause_of-in-Err.result bytes _ broken.fault (c.cause_of-in-Err.ensures.cause i.0 good broken i.5 state) c.cause_of-in-Err.ensures.line (c.line_of_row-line-in-Err.ensures bytes behind)
 
 -- ---- a legal row
 pub loop-notes-smaller : goal.loop-notes-smaller
@@ -122,6 +127,7 @@ pub loop-notes-preserved : goal.loop-notes-preserved
 loop-notes-preserved g c =
     let i = c.loop-notes.invariant in
     let row = c.in-Some.row in
+    let state = subst (λ (p : PlanModel). IsStateAfter p i.0 row.core.0 c.state-state.result) i.1 (c.state-state.ensures i.0 i.2 i.3) in
     let turned : c.is_in_turn.result ≡ true = cc in
     let awaits = c.turn-due.ensures.awaits i.0 i.2 in
     let tick = c.is_in_turn.ensures.tick turned i.0 i.2 ∙ (ap (λ (p : PlanModel). length i.0 / p.cores) (sym c.turn-due.ensures.plan) ∙ sym awaits.tick) in
@@ -135,6 +141,6 @@ loop-notes-preserved g c =
       fed,
       none,
       λ told known. read-row told i.0 _ _ c.next_foreseen.result row (i.4 told known) c.next_foreseen.ensures.next is,
-      c.note.ensures i.0 start fed none i.5,
+      c.note.ensures i.0 start state i.5,
       λ bytes read. subst (λ r. HasReadBehind g.T.Read.remaining bytes r c.next_foreseen.new.self) is (c.next_foreseen.ensures.lines bytes (i.6 bytes read)),
     )

@@ -5,7 +5,7 @@ use Rattle.msrp_audit.proofs.Judging.{due_after}
 use Rattle.msrp_why.proofs.causes.cause_of.Goals as goal
 
 pub returns-clause-cause : goal.returns-clause-cause
-returns-clause-cause c = λ rows good broken noted.
+returns-clause-cause c = λ rows good broken noted state.
     let plan = c.args.plan.now in
     let r = c.args.row in
     record {
@@ -15,7 +15,7 @@ returns-clause-cause c = λ rows good broken noted.
       expected = λ t. broken.turn t.0 t.1;
       state = λ t.
           let core = (due_after plan rows r t.0 t.1).turn in
-          subst (λ n. IsSomeAnd c.state-state.result (IsCoreState plan r.core.0 n rows)) (turns_when_due plan rows r.core.0 c.cores_with_turn-turns.ensures.accepted (good_start plan rows good).each core) (c.state-state.ensures plan rows noted core.core);
+          subst (λ n. IsSomeAnd c.args.state (IsCoreState plan r.core.0 n rows)) (turns_when_due plan rows r.core.0 c.cores_with_turn-turns.ensures.accepted (good_start plan rows good).each core) (state core.core);
       turns = λ t. let out = broken.out (λ few. t.1) in c.cores_with_turn-turns.ensures.turns rows out.0 out.1 t.0;
       notes = noted;
     }
