@@ -1,11 +1,11 @@
 -- Records by their places, and the last place that passes a test.
-use Rattle.std.proofs.Common.{◌≡◌, ◌∙◌, ◌+◌, ◌<◌, if◌then◌else◌, ◌&&◌}
-use Rattle.msrp_plan.proofs.Common.{ℕ, Bool, true, false, List, [], None, Some, ap, sym, refl, add-one, drop, length, map, slice_index_or, list_any, get_or-map, any_map, codes, not}
+use Rattle.std.proofs.Common.{◌≡◌, ◌∙◌, ◌+◌, ◌<◌, ◌&&◌, if◌then◌else◌}
+use Rattle.msrp_plan.proofs.Common.{ℕ, Bool, true, false, List, [], None, Some, ap, sym, refl, add-one, any_map, codes, drop, length, list_any, map, not, slice_index_or, get_or-map}
+use Rattle.std.proofs.lemmas.List.{drop-map}
 use Rattle.csv.specs.Records.{Row, fields_of}
 use Rattle.msrp_text.specs.Reading.{record_at}
 use Rattle.msrp_advice.specs.Earlier.{last_place}
 use Rattle.msrp_advice.specs.Nested.{core_after, core_at}
-use Rattle.std.proofs.lemmas.List.{drop-map}
 use Rattle.msrp_advice.specs.Records.{is_op, is_op_on, is_open}
 
 -- a record by its place

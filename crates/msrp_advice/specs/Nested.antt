@@ -1,8 +1,8 @@
 -- A lock of a global resource while a global one is held.
 use Rattle.std.specs.Prelude.{◌==◌, if◌then◌else◌, ◌≡◌}
-use Rattle.msrp_plan.specs.Common.{ℕ, zero, suc, true, List, take, codes, map, false}
+use Rattle.msrp_plan.specs.Common.{ℕ, zero, suc, true, false, List, take, codes, map}
 use Rattle.msrp_text.specs.Reading.{number_told, record_at}
-use Rattle.msrp_advice.specs.Records.{is_open, is_op, is_task, is_op_on}
+use Rattle.msrp_advice.specs.Records.{is_op, is_op_on, is_open, is_task}
 use Rattle.csv.specs.Records.{Row, fields_of}
 
 -- the core after a record: a task's own

@@ -1,6 +1,6 @@
 //! The records of a plan's text: what each is, and what it shares with another.
 ghost use Rattle.std.specs.Prelude.{◌≡◌, ◌<◌, ◌≤◌};
-ghost use Rattle.msrp_plan.specs.Common.{length, map, drop, list_any, codes};
+ghost use Rattle.msrp_plan.specs.Common.{codes, drop, length, list_any, map};
 ghost use Rattle.csv.specs.Records.{fields_of};
 ghost use Rattle.msrp_text.specs.Reading.{number_told};
 ghost use Rattle.msrp_advice.specs.Records as spec;

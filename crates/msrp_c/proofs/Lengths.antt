@@ -1,6 +1,6 @@
 -- Texts that are too long, and status 5.
 use Rattle.std.proofs.Common.{◌≡◌, ◌≤◌, ◌∙◌}
-use Rattle.msrp_plan.proofs.Common.{ℕ, Bool, true, false, List, [], length, Option, Some, None, refl, ap, sym, subst, inl, inr, arith, cases_lt, ⊤}
+use Rattle.msrp_plan.proofs.Common.{ℕ, Bool, true, false, List, [], length, IfOk, refl, ap, sym, subst, inl, inr, arith, cases_lt, ⊤}
 use Rattle.msrp_plan.specs.declared.faults.Fault.{Fault}
 use mathlib.Core.Bool.{true≢false}
 use Rattle.std.specs.declared.result.Result.{Result}
@@ -11,9 +11,9 @@ use Rattle.msrp_faults.specs.declared.faults.CliFault.TheVariants.{Plan, Trace, 
 use Rattle.msrp_engine.specs.declared.made.Made.{Made}
 use Rattle.msrp_engine.specs.Answered.{OrUnread}
 use Rattle.msrp_c.specs.Answers.{Answers, Gives, Hands, HandsOver, Judges, Tells, status_told, text_in, unfailed}
-use Rattle.msrp_c.specs.Whys.{AnswersWords, HandsWords, refusal_in, refusal_told, words_in}
-use Rattle.msrp_view_engine.specs.declared.why_plan.Refusal.{Refusal}
-use Rattle.msrp_view_engine.specs.declared.why_plan.Words.{Words}
+use Rattle.msrp_c.specs.Whys.{AnswersWords, HandsWords, refusal_in, words_in}
+use Rattle.msrp_view_engine.specs.Answers.{IsOnPlan}
+use Rattle.msrp_view_engine.specs.declared.words.Words.{Words}
 use Rattle.msrp_c.specs.declared.answers.MsrpFound.{MsrpFound}
 
 -- ---- status 5
@@ -35,13 +35,20 @@ found-unfailed (Err fault) = refl
 six : (status : ℕ) → status ≡ 6 → status ≡ 5 → ⊥
 six status h e = absurd (cc)
 
-refused-unfailed : (refusal : Option Refusal) → refusal_told refusal ≡ unfailed (refusal_told refusal)
-refused-unfailed None = refl
-refused-unfailed (Some refusal) = refl
+-- what is found in a plan is no read or write that failed
+on-plan-unfailed : (found : Result (Result ⊤ Fault) CliFault) → IsOnPlan found → found ≡ unfailed found
+on-plan-unfailed (Ok verdict) is = refl
+on-plan-unfailed (Err (Plan c n)) is = refl
+on-plan-unfailed (Err (Trace c n)) is = refl
+on-plan-unfailed (Err Usage) is = refl
+on-plan-unfailed (Err Memory) is = refl
+on-plan-unfailed (Err Threads) is = refl
+on-plan-unfailed (Err Read) is = absurd (cc)
+on-plan-unfailed (Err Write) is = absurd (cc)
 
-words-unfailed : (words : Result Words CliFault) → refusal_in (unfailed words) ≡ unfailed (refusal_in words)
-words-unfailed (Ok words) = refused-unfailed words.refusal
-words-unfailed (Err fault) = refl
+words-unfailed : (words : Result Words CliFault) → IfOk words (λ made. IsOnPlan made.found) → refusal_in (unfailed words) ≡ unfailed (refusal_in words)
+words-unfailed (Ok words) is = on-plan-unfailed words.found is
+words-unfailed (Err fault) is = refl
 
 hands-five : (what : Result (Result ⊤ Fault) CliFault) (text old new : List ℕ) (needed : ℕ) (found : MsrpFound) (status : ℕ) → HandsOver (unfailed what) text old new needed found status → status ≡ 5 → ⊥
 hands-five what text old new needed found status h e = elim (cases_lt (length old) (length text)) [
@@ -98,5 +105,5 @@ pub long-words : (long : Bool) (AreMade : Result Words CliFault → Type 0) (old
 long-words long AreMade old new needed found status is h = long-given refusal_in words_in long AreMade old new needed found status refl refl is h
 
 pub short-words : (long : Bool) (AreMade : Result Words CliFault → Type 0) (words : Result Words CliFault) (old new : List ℕ) (needed : ℕ) (found : MsrpFound) (status : ℕ)
-    → long ≡ false → AreMade words → HandsWords (unfailed words) old new needed found status → AnswersWords long AreMade old new needed found status
-short-words long AreMade words old new needed found status is good h = short-given refusal_in words_in long AreMade words old new needed found status (words-unfailed words) is good h
+    → long ≡ false → IfOk words (λ made. IsOnPlan made.found) → AreMade words → HandsWords (unfailed words) old new needed found status → AnswersWords long AreMade old new needed found status
+short-words long AreMade words old new needed found status is plan good h = short-given refusal_in words_in long AreMade words old new needed found status (words-unfailed words plan) is good h

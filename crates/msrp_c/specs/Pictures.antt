@@ -2,7 +2,7 @@
 use Rattle.std.specs.Prelude.{◌≡◌}
 use Rattle.msrp_plan.specs.Common.{ℕ, List, Option, Some, None, Result, PlanModel}
 use Rattle.std.specs.declared.result.Result.TheVariants.{Err}
-use Rattle.msrp_view_engine.specs.Views.{IsPictureOf}
+use Rattle.msrp_view_engine.specs.Answers.{IsPictureOf}
 use Rattle.msrp_faults.specs.declared.faults.CliFault.{CliFault}
 use Rattle.msrp_faults.specs.declared.faults.CliFault.TheVariants.{Usage}
 use Rattle.msrp_engine.specs.declared.made.Made.{Made}

@@ -1,24 +1,18 @@
 -- Words on a trace, and on a plan.
-use Rattle.msrp_plan.specs.Common.{ℕ, Bool, List, [], Option, Some, None, Ok, Err, IsOkAnd, ⊤, Result, code_of}
+use Rattle.std.specs.Prelude.{◌≡◌}
+use Rattle.msrp_plan.specs.Common.{ℕ, Bool, List, [], Ok, Err, IsOkAnd, ⊤, Result}
 use Rattle.msrp_plan.specs.declared.faults.Fault.{Fault}
 use Rattle.msrp_faults.specs.declared.faults.CliFault.{CliFault}
-use Rattle.msrp_faults.specs.declared.faults.CliFault.TheVariants.{Plan}
 use Rattle.msrp_text.specs.Reading.{csv_records, plan_of}
-use Rattle.msrp_view_engine.specs.Explaining.{IsRefusedAs}
-use Rattle.msrp_view_engine.specs.declared.why_plan.Refusal.{Refusal}
-use Rattle.msrp_view_engine.specs.declared.why_plan.Words.{Words}
+use Rattle.msrp_view_engine.specs.Answers.{plan_found}
+use Rattle.msrp_view_engine.specs.declared.words.Words.{Words}
 use Rattle.msrp_engine.specs.Answered.{OrUnread}
 use Rattle.msrp_c.specs.Answers.{Gives, HandsOver}
 use Rattle.msrp_c.specs.declared.answers.MsrpFound.{MsrpFound}
 
--- the plan's refusal, if there is one
-abbrev pub refusal_told : Option Refusal → Result (Result ⊤ Fault) CliFault
-refusal_told None = Ok (Ok tt)
-refusal_told (Some refusal) = Err (Plan (code_of refusal.fault) refusal.number)
-
--- the refusal that comes with words on a plan, or the fault in place of both
+-- what is found in a plan that words were made on, or the fault in place of both
 abbrev pub refusal_in : Result Words CliFault → Result (Result ⊤ Fault) CliFault
-refusal_in (Ok words) = refusal_told words.refusal
+refusal_in (Ok words) = words.found
 refusal_in (Err fault) = Err fault
 
 -- the words; where a fault is told there are none
@@ -28,7 +22,7 @@ words_in (Err fault) = []
 
 -- these are words on a plan's text, with its refusal
 abbrev pub AreWords : List ℕ → Result Words CliFault → Type 0
-AreWords text words = OrUnread words (IsOkAnd words (λ made. IsRefusedAs (plan_of (csv_records text)) made.refusal))
+AreWords text words = OrUnread words (IsOkAnd words (λ made. made.found ≡ plan_found (plan_of (csv_records text))))
 
 -- words are handed over with the plan's refusal, which is no fault of the call: a refused plan has words too
 abbrev pub HandsWords : Result Words CliFault → List ℕ → List ℕ → ℕ → MsrpFound → ℕ → Type 0

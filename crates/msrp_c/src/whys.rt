@@ -1,18 +1,17 @@
 //! Words on a trace, and on a plan.
 ghost use Rattle.std.specs.Prelude.{◌≡◌, ◌⊎◌, ◌||◌};
-ghost use Rattle.msrp_plan.specs.Common.{Ok, Err};
+ghost use Rattle.msrp_plan.specs.Common.{IfOk, Err};
 ghost use Rattle.msrp_text.specs.Reading.{csv_records, plan_of};
+ghost use Rattle.msrp_view_engine.specs.Answers.{IsOnPlan};
 ghost use Rattle.msrp_view_engine.specs.Whys.{IsWhyOf};
 ghost use Rattle.msrp_engine.specs.Answered.{OrUnread};
 ghost use Rattle.msrp_c.specs.Answers.{Answers, is_long};
-ghost use Rattle.msrp_c.specs.Whys.{AnswersWords, AreWords, HandsWords, refusal_told};
+ghost use Rattle.msrp_c.specs.Whys.{AnswersWords, AreWords, HandsWords};
 
 use crate::answers::{MsrpFound, are_long, hand_over, hand_text, is_long, unfailed};
-use msrp_audit::Fault;
 use msrp_engine::{CliFault, Made};
 use msrp_plan::bytes::Source;
-use msrp_text::TextError;
-use msrp_view_engine::{Refusal, Words, why_of_plan, why_of_texts};
+use msrp_view_engine::{Words, why_of_plan, why_of_texts};
 use std::alloc::Global;
 
 // The words on a trace.
@@ -45,20 +44,11 @@ pub extern "C" fn msrp_why(
 
 // The words on a plan.
 fn advised(alloc: Global, plan: &[u8]) -> Result<Words, CliFault>
-    ensures { AreWords plan.now result }
+    ensures words { AreWords plan.now result }
+    ensures plan { IfOk result (λ words. IsOnPlan words.found) }
 {
     let mut plan = Source::new(plan);
     why_of_plan(alloc, "plan", &mut plan)
-}
-
-// A plan's refusal, if there is one.
-fn refusal_told(refusal: Option<Refusal>) -> Result<Result<(), Fault>, CliFault>
-    ensures { result ≡ refusal_told refusal }
-{
-    match refusal {
-        None => Ok(Ok(())),
-        Some(Refusal { fault, number }) => Err(CliFault::from(TextError::At { fault, number })),
-    }
 }
 
 // Hands words over, or tells why there are none.
@@ -71,10 +61,7 @@ fn hand_words(
     ensures { HandsWords words text.old text.new needed.new found.new result }
 {
     match words {
-        Ok(words) => {
-            let what = refusal_told(words.refusal);
-            hand_text(what, words.text.as_slice(), text, needed, found)
-        }
+        Ok(words) => hand_text(words.found, words.text.as_slice(), text, needed, found),
         Err(fault) => hand_text(Err(fault), &[], text, needed, found),
     }
 }

@@ -9,7 +9,6 @@ use Rattle.clap.specs.declared.error.kind.ErrorKind.TheVariants.{DisplayVersion}
 use Rattle.msrp_cli.specs.Arguments.{fault_of_words, flag, help_unless, is_given, paths_of, valued, wanted}
 use Rattle.msrp_faults.specs.declared.faults.CliFault.{CliFault}
 use Rattle.msrp_faults.specs.declared.faults.CliFault.TheVariants.{Usage}
-use Rattle.msrp_export.specs.declared.formats.Format.{Format}
 use Rattle.msrp_view.specs.declared.cli.Cmd.{Cmd}
 use Rattle.msrp_view.specs.declared.cli.Cmd.TheVariants.{Help, Version, Show, WhyPlan}
 use Rattle.msrp_picture.specs.declared.windows.Asked.{Asked}
@@ -71,31 +70,21 @@ asked_by (Err fault) from to = Err fault
 abbrev pub asked_of : List Row → Result Asked CliFault
 asked_of rows = asked_by (style_of (is_given (codes "text") rows) (is_given (codes "svg") rows)) (tick_of (first_of (codes "from") rows)) (tick_of (first_of (codes "to") rows))
 
--- one format, not both
-abbrev pub format_of : Bool → Bool → Result Format CliFault
-format_of true false = Ok format.Vcd
-format_of false true = Ok format.Perfetto
-format_of _ _ = Err Usage
-
 -- the arguments say how to draw, or which ticks
 abbrev pub says_picture : List Row → Bool
 says_picture rows = is_given (codes "text") rows || (is_given (codes "svg") rows || (is_given (codes "from") rows || is_given (codes "to") rows))
 
--- the arguments name a format of another tool
-abbrev pub says_format : List Row → Bool
-says_format rows = is_given (codes "vcd") rows || is_given (codes "perfetto") rows
-
 -- words, a format or a picture: only one of them
-abbrev pub view_by : Bool → Bool → Bool → Result Format CliFault → Result Asked CliFault → Result View CliFault
-view_by true false false format asked = Ok Why
-view_by false true false (Ok format) asked = Ok (Export format)
-view_by false true false (Err fault) asked = Err fault
-view_by false false picture format (Ok asked) = Ok (Picture asked)
-view_by false false picture format (Err fault) = Err fault
-view_by _ _ _ format asked = Err Usage
+abbrev pub view_by : Bool → Bool → Bool → Bool → Result Asked CliFault → Result View CliFault
+view_by true false false false asked = Ok Why
+view_by false true false false asked = Ok (Export format.Vcd)
+view_by false false true false asked = Ok (Export format.Perfetto)
+view_by false false false picture (Ok asked) = Ok (Picture asked)
+view_by false false false picture (Err fault) = Err fault
+view_by _ _ _ _ asked = Err Usage
 
 abbrev pub view_of : List Row → Result View CliFault
-view_of rows = view_by (is_given (codes "why") rows) (says_format rows) (says_picture rows) (format_of (is_given (codes "vcd") rows) (is_given (codes "perfetto") rows)) (asked_of rows)
+view_of rows = view_by (is_given (codes "why") rows) (is_given (codes "vcd") rows) (is_given (codes "perfetto") rows) (says_picture rows) (asked_of rows)
 
 -- ---- answers
 -- a plan alone is to be explained
@@ -109,7 +98,10 @@ IsShown view rows (Ok (Show v plan trace)) = (v ≡ view) × (explains_plan view
 IsShown view rows (Ok (WhyPlan plan)) = (explains_plan view (first_of (codes "TRACE") rows) ≡ true) × (first_of (codes "PLAN") rows ≡ Some plan.now)
 IsShown view rows (Ok Help) = ⊥
 IsShown view rows (Ok Version) = ⊥
-IsShown view rows (Err fault) = (fault ≡ Usage) × (if explains_plan view (first_of (codes "TRACE") rows) then first_of (codes "PLAN") rows ≡ None else (paths_of rows ≡ None))
+IsShown view rows (Err fault) =
+    (fault ≡ Usage)
+    × (explains_plan view (first_of (codes "TRACE") rows) ≡ true → first_of (codes "PLAN") rows ≡ None)
+    × (explains_plan view (first_of (codes "TRACE") rows) ≡ false → paths_of rows ≡ None)
 
 -- the command is the one that is asked for, if one is
 abbrev pub IsAsked : List Row → Result Cmd CliFault → Type 0

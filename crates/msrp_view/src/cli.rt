@@ -2,7 +2,7 @@
 ghost use Rattle.std.specs.Prelude.{◌≡◌, ◌⊎◌};
 ghost use Rattle.msrp_plan.specs.Common.{false, map, ok_or, option_map, string_bytes, Err, IfErr, IfOk, Some, is_ascii_digit, list_all};
 ghost use Rattle.clap.specs.Words.{fault_of, found_of, matches_of, rows_of, rule_of};
-ghost use Rattle.msrp_view.specs.CommandLine.{IsAnswered, IsShown, Takes, IsAsked};
+ghost use Rattle.msrp_view.specs.CommandLine.{IsAnswered, IsAsked, IsShown, Takes};
 ghost use Rattle.msrp_view.specs.CommandLine as line;
 
 use clap::error::ErrorKind;
@@ -187,18 +187,6 @@ fn asked_of(matches: &ArgMatches<'_>) -> Result<Asked, CliFault>
     })
 }
 
-// The format for another tool: one, not both.
-fn format_of(vcd: bool, perfetto: bool) -> Result<Format, CliFault>
-    ensures value { result ≡ line.format_of vcd perfetto }
-    ensures usage { IfErr result (λ fault. fault ≡ CliFault.Usage) }
-{
-    match (vcd, perfetto) {
-        (true, false) => Ok(Format::Vcd),
-        (false, true) => Ok(Format::Perfetto),
-        _ => Err(CliFault::Usage),
-    }
-}
-
 // Whether the arguments say how to draw, or which ticks.
 fn says_picture(matches: &ArgMatches<'_>) -> bool
     ensures { result ≡ line.says_picture (rows_of (found_of matches.now)) }
@@ -209,28 +197,20 @@ fn says_picture(matches: &ArgMatches<'_>) -> bool
         || is_given(matches, TO)
 }
 
-// Whether the arguments name a format of another tool.
-fn says_format(matches: &ArgMatches<'_>) -> bool
-    ensures { result ≡ line.says_format (rows_of (found_of matches.now)) }
-{
-    is_given(matches, VCD) || is_given(matches, PERFETTO)
-}
-
 // What is shown: a picture, words, or a file for another tool.
 fn view_of(matches: &ArgMatches<'_>) -> Result<View, CliFault>
     ensures value { result ≡ line.view_of (rows_of (found_of matches.now)) }
     ensures usage { IfErr result (λ fault. fault ≡ CliFault.Usage) }
 {
     let why = is_given(matches, WHY);
-    let format = says_format(matches);
+    let vcd = is_given(matches, VCD);
+    let perfetto = is_given(matches, PERFETTO);
     let picture = says_picture(matches);
-    match (why, format, picture) {
-        (true, false, false) => Ok(View::Why),
-        (false, true, false) => {
-            let format = format_of(is_given(matches, VCD), is_given(matches, PERFETTO))?;
-            Ok(View::Export(format))
-        }
-        (false, false, _) => Ok(View::Picture(asked_of(matches)?)),
+    match (why, vcd, perfetto, picture) {
+        (true, false, false, false) => Ok(View::Why),
+        (false, true, false, false) => Ok(View::Export(Format::Vcd)),
+        (false, false, true, false) => Ok(View::Export(Format::Perfetto)),
+        (false, false, false, _) => Ok(View::Picture(asked_of(matches)?)),
         _ => Err(CliFault::Usage),
     }
 }

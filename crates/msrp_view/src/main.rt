@@ -5,7 +5,6 @@
 #![tactic(auto)]
 
 mod cli;
-mod version;
 
 use cli::{Cmd, View, command_of, help_text};
 use msrp_cli::{open, open_both, words_of};
@@ -16,7 +15,6 @@ use std::alloc::Global;
 use std::io::{BufWriter, Read, Write};
 use std::process::ExitCode;
 use std::{env, fs, io};
-use version::write_version;
 
 // Output is gathered into writes of this many bytes.
 const GATHERED: usize = 65_536;
@@ -58,10 +56,14 @@ fn answer<W: Write>(rt: &HostRuntime, cmd: Cmd<'_>, out: &mut Sink<W>) -> Result
     let alloc = rt.alloc();
     match cmd {
         Cmd::Help => write_answer(out, help_text(alloc)?.as_bytes(), Ok(0)),
-        Cmd::Version => match release_info(rt) {
-            Some(release) => write_version(out, release.as_slice()),
-            None => write_version(out, NO_RELEASE),
-        },
+        Cmd::Version => {
+            let release = release_info(rt);
+            out.add(b"msrp_view 0.1.0\n");
+            match &release {
+                Some(release) => write_answer(out, release.as_slice(), Ok(0)),
+                None => write_answer(out, NO_RELEASE, Ok(0)),
+            }
+        }
         Cmd::WhyPlan { plan } => {
             let name = if plan == "-" { STANDARD_INPUT } else { plan };
             why_plan_text(alloc, name, &mut Source::new(open(rt, plan)?), out)

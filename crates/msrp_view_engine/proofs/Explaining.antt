@@ -1,11 +1,12 @@
--- What is found in rows that are judged as they come, with the cause of a fault or the refusal behind them, and the words on it.
-use Rattle.std.proofs.Common.{◌≡◌, ◌⊎◌, ◌+◌, ◌++◌, ◌∷◌, ◌∙◌}
-use Rattle.msrp_plan.proofs.Common.{[], ℕ, true, List, Option, Some, None, IfOk, IfErr, ap, sym, subst, inl, inr, append_assoc, same_Some, ⊤, IfSome, option_or, PlanModel, fault_in, missing, verdict}
+-- What is found in rows that are judged as they are read, with the cause of a fault or the refusal behind them, and the words on it.
+use Rattle.std.proofs.Common.{◌≡◌, ◌⊎◌, ◌+◌, ◌-◌, ◌*◌, ◌<◌, ◌++◌, ◌∷◌, ◌∙◌}
+use Rattle.msrp_plan.proofs.Common.{[], ℕ, true, List, Option, Some, None, length, IfOk, IfErr, ap, sym, subst, inl, inr, append_assoc, length-append, same_Some, ⊤, IfSome, option_or, PlanModel, fault_in, missing, verdict}
+use Rattle.msrp_plan.specs.declared.bytes.Sink.{Sink}
 use Rattle.msrp_plan.specs.declared.faults.Fault.{Fault}
 use Rattle.msrp_plan.specs.declared.rows.Row.{Row}
 use Rattle.std.specs.declared.result.Result.{Result}
 use Rattle.std.specs.declared.result.Result.TheVariants.{Ok, Err}
-use Rattle.msrp_audit.specs.Audits.{answer_of}
+use Rattle.msrp_audit.specs.Audits.{AuditorModel, HasFed, answer_of}
 use Rattle.msrp_text.specs.Lines.{BeginsIn}
 use Rattle.msrp_text.specs.declared.reading.TextError.{TextError}
 use Rattle.msrp_trace.specs.Reading.{Told, rows_of}
@@ -18,18 +19,25 @@ use Rattle.msrp_why.specs.declared.causes.Cause.{Cause}
 use Rattle.msrp_why.specs.declared.causes.Ground.TheVariants.{End, Row as AtRow}
 use Rattle.msrp_why.specs.declared.notes.Notes.{Notes}
 use Rattle.msrp_engine.specs.Answered.{OrUnread}
-use Rattle.msrp_engine.specs.Findings.{finding}
-use Rattle.msrp_engine.specs.MadeTexts.{found_in}
-use Rattle.msrp_engine.specs.declared.made.Made.{Made}
-use Rattle.msrp_faults.specs.Outcomes.{fault_of, trace_fault_of, answered}
+use Rattle.msrp_engine.specs.Findings.{finding, finding_of}
+use Rattle.msrp_engine.proofs.Judging as judging
+use Rattle.msrp_faults.specs.Outcomes.{fault_of, trace_fault_of}
 use Rattle.msrp_faults.specs.declared.faults.CliFault.{CliFault}
 use Rattle.msrp_faults.specs.declared.faults.CliFault.TheVariants.{Read as ReadFault, Memory as NoMemory}
-use Rattle.msrp_view_engine.specs.Statuses.{is_record_fault, answer_to}
-use Rattle.msrp_view_engine.specs.Whys.{BeginsRow, IsExplained, IsExplainedOf, IsJudged, IsWhyOf, WhyAnswers}
-use Rattle.msrp_view_engine.specs.declared.why.Explained.{Explained}
+use Rattle.msrp_view_engine.specs.Answers.{AreOnTrace, is_record_fault}
+use Rattle.msrp_view_engine.specs.Whys.{BeginsRow, IsExplainedOf, IsJudged, WhyAnswers, WritesWords}
 use Rattle.msrp_view_engine.specs.declared.why.Judged.{Judged}
-use Rattle.msrp_plan.specs.declared.bytes.Sink.{Sink}
-use Rattle.msrp_engine.proofs.Judging as judging
+use Rattle.msrp_view_engine.specs.declared.words.Words.{Words}
+
+-- one row more was fed: it has no fault, and fewer turns are left
+pub row-fed : (old new : AuditorModel) (rows : List Row) (r : Row) → HasFed old rows → old.fault ≡ None → HasFed new (rows ++ r ∷ []) → new.fault ≡ None → new.plan ≡ old.plan
+    → (fault_in old.plan (rows ++ r ∷ []) ≡ None) × (new.plan.cores * new.plan.ticks - new.fed < old.plan.cores * old.plan.ticks - old.fed)
+row-fed old new rows r fed good more legal plan =
+    let none : fault_in old.plan (rows ++ r ∷ []) ≡ None = subst (λ (p : PlanModel). fault_in p (rows ++ r ∷ []) ≡ None) plan (sym more.fault ∙ legal) in
+    let was : old.fed ≡ length rows = fed.count good in
+    let now : new.fed ≡ old.fed + 1 = more.count legal ∙ (length-append rows (r ∷ []) ∙ ap (λ n. n + 1) (sym was)) in
+    let left = judging.turn-left old.plan rows r (sym fed.fault ∙ good) none in
+    (none, judging.fewer-left old.plan new.plan old.fed new.fed plan now (subst (λ n. n < old.plan.cores * old.plan.ticks) (sym was) left))
 
 -- an error of the reader, behind good rows
 pub refusal-judged : (plan : PlanModel) (told : Told) (rows : List Row) (left after : Option Told) (result : Result (Option Row) TraceError) (error : TraceError) (answer : Result Judged TraceError)
@@ -67,31 +75,34 @@ end-found plan told rows left after result found notes is next e good answer not
     (judging.verdict-found plan told rows left after result is next e good ∙ ap (λ x. Ok x) (sym answer), (answer ∙ (ap answer_of short ∙ ap (λ xs. answer_of (missing plan xs)) (sym whole.0)), subst (λ xs. AreNoted plan xs notes) (sym whole.0) noted))
 
 -- ---- the words in memory
-abbrev pub IsExplainedOr : PlanModel → Told → Result Explained CliFault → Type 0
-IsExplainedOr plan told answer = OrUnread answer (IfOk answer (IsExplained plan told))
+abbrev pub IsExplained : PlanModel → Told → Result Words CliFault → Type 0
+IsExplained plan told answer = OrUnread answer (IfOk answer (λ words. words.found ≡ finding plan told))
 
 -- on a verdict
-pub judged-explained : (plan : PlanModel) (told : Told) (judged : Judged) (answer : Result Explained CliFault) → IsJudged plan told (Ok judged)
-    → IfOk answer (λ words. words.found ≡ Ok judged.verdict) → IfErr answer (λ fault. fault ≡ NoMemory) → IsExplainedOr plan told answer
+pub judged-explained : (plan : PlanModel) (told : Told) (judged : Judged) (answer : Result Words CliFault) → IsJudged plan told (Ok judged)
+    → IfOk answer (λ words. words.found ≡ Ok judged.verdict) → IfErr answer (λ fault. fault ≡ NoMemory) → IsExplained plan told answer
 judged-explained plan told judged (Ok words) is found memory = inr (inr (found ∙ sym is.0))
 judged-explained plan told judged (Err fault) is found memory = inr (inl (ap (λ x. Err x) memory))
 
 -- a read that failed, or want of memory, has no words
-no-record : (x : CliFault) (found : Result (Result ⊤ Fault) CliFault) → found ≡ Err x → IfErr found (λ f. is_record_fault f ≡ true) → is_record_fault x ≡ true
-no-record x found is record_fault = subst (λ f. IfErr f (λ g. is_record_fault g ≡ true)) is record_fault
+no-record : (x : CliFault) (words : Words) → words.found ≡ Err x → AreOnTrace words → is_record_fault x ≡ true
+no-record x words found are = subst (λ f. IfErr f (λ g. is_record_fault g ≡ true)) found are.refused
+
+-- an error in place of words
+no-words : {P : Type 0} (fault : CliFault) → (fault ≡ NoMemory) ⊎ (fault ≡ ReadFault) → OrUnread {A = Words} (Err fault) P
+no-words fault h = elim h [ inl memory ↦ inr (inl (ap (λ x. Err x) memory)) | inr read ↦ inl (ap (λ x. Err x) read) ]
 
 -- on a refusal
-pub refused-explained : (plan : PlanModel) (told : Told) (error : TraceError) (answer : Result Explained CliFault) → IsJudged plan told (Err error)
-    → IfOk answer (λ words. words.found ≡ Err (trace_fault_of error)) → IfOk answer (λ words. IfErr words.found (λ fault. is_record_fault fault ≡ true))
-    → IfErr answer (λ fault. (fault ≡ NoMemory) ⊎ (fault ≡ ReadFault)) → IsExplainedOr plan told answer
-refused-explained plan told error (Ok words) is found refused fault = elim is [
-  | inl read ↦ (let f : words.found ≡ Err ReadFault = found ∙ ap (λ e. Err (trace_fault_of e)) read in let no = no-record ReadFault words.found f refused in absurd (cc))
+pub refused-explained : (plan : PlanModel) (told : Told) (error : TraceError) (answer : Result Words CliFault) → IsJudged plan told (Err error)
+    → IfOk answer (λ words. words.found ≡ Err (trace_fault_of error)) → IfOk answer AreOnTrace → IfErr answer (λ fault. (fault ≡ NoMemory) ⊎ (fault ≡ ReadFault)) → IsExplained plan told answer
+refused-explained plan told error (Ok words) is found are fault = elim is [
+  | inl read ↦ (let no = no-record ReadFault words (found ∙ ap (λ e. Err (trace_fault_of e)) read) are in absurd (cc))
   | inr k ↦ elim k [
-    | inl memory ↦ (let f : words.found ≡ Err NoMemory = found ∙ ap (λ e. Err (trace_fault_of e)) memory in let no = no-record NoMemory words.found f refused in absurd (cc))
+    | inl memory ↦ (let no = no-record NoMemory words (found ∙ ap (λ e. Err (trace_fault_of e)) memory) are in absurd (cc))
     | inr due ↦ inr (inr (found ∙ sym due.0))
   ]
 ]
-refused-explained plan told error (Err f) is found refused fault = elim fault [ inl memory ↦ inr (inl (ap (λ x. Err x) memory)) | inr read ↦ inl (ap (λ x. Err x) read) ]
+refused-explained plan told error (Err f) is found are fault = no-words f fault
 
 -- a reader that doesn't open
 pub unopened-judged : {R : Type 0} (remaining : R → Option (List ℕ)) (plan : PlanModel) (records : List (List (List ℕ))) (error : TraceError) → Opens remaining plan records (Err error) → IsJudged plan (rows_of plan records) (Err error)
@@ -101,53 +112,28 @@ unopened-judged remaining plan records error h = elim (unopened remaining plan r
 ]
 
 -- words, or a read that failed or want of memory
-pub words-or : (plan : PlanModel) (records : List (List (List ℕ))) (answer : Result Explained CliFault) → IsExplainedOr plan (rows_of plan records) answer → IfErr answer (λ fault. (fault ≡ NoMemory) ⊎ (fault ≡ ReadFault))
+pub words-or : (plan : PlanModel) (records : List (List (List ℕ))) (answer : Result Words CliFault) → IsExplained plan (rows_of plan records) answer → IfErr answer (λ fault. (fault ≡ NoMemory) ⊎ (fault ≡ ReadFault))
     → OrUnread answer (IsExplainedOf (Ok plan) records answer)
 words-or plan records (Ok words) explained fault = explained
-words-or plan records (Err f) explained fault = elim fault [ inl memory ↦ inr (inl (ap (λ x. Err x) memory)) | inr read ↦ inl (ap (λ x. Err x) read) ]
+words-or plan records (Err f) explained fault = no-words f fault
 
--- ---- the verdict alone, or the answer
-made-why : (read : Result PlanModel TextError) (records : List (List (List ℕ))) (words : Explained) (answer : Result Made CliFault) → IsExplainedOf read records (Ok words) → found_in answer ≡ words.found → IsWhyOf read records answer
-made-why (Ok plan) records words answer is found = found ∙ is
-made-why (Err error) records words answer is found = absurd (cc)
+-- ---- what is answered to them
+-- the finding that comes with words, or the refusal in place of them
+pub found-words : (read : Result PlanModel TextError) (records : List (List (List ℕ))) (words : Words) → IsExplainedOf read records (Ok words) → words.found ≡ finding_of read records
+found-words (Ok plan) records words is = is
+found-words (Err error) records words is = absurd (cc)
 
-pub explained-why : (read : Result PlanModel TextError) (records : List (List (List ℕ))) (words : Explained) (answer : Result Made CliFault) → OrUnread {A = Explained} (Ok words) (IsExplainedOf read records (Ok words))
-    → found_in answer ≡ words.found → OrUnread answer (IsWhyOf read records answer)
-explained-why read records words answer explained found = elim explained [
-  | inl e ↦ absurd (cc)
-  | inr k ↦ elim k [
-    | inl e ↦ absurd (cc)
-    | inr e ↦ inr (inr (made-why read records words answer e found))
-  ]
-]
+pub found-none : (read : Result PlanModel TextError) (records : List (List (List ℕ))) (fault : CliFault) → IsExplainedOf read records (Err fault) → Err fault ≡ finding_of read records
+found-none (Ok plan) records fault is = absurd is
+found-none (Err error) records fault is = let same : fault ≡ fault_of error = cc in ap (λ x. Err x) same
 
--- what is written of words
-told-of : {W : Type 0} (read : Result PlanModel TextError) (records : List (List (List ℕ))) (words : Explained) (old new : Sink W) (result : Result ℕ CliFault)
-    → IsExplainedOf read records (Ok words) → result ≡ answered (answer_to words.found) new → WhyAnswers read records old new result
-told-of (Ok plan) records words old new result is status = status ∙ ap (λ f. answered (answer_to f) new) is
-told-of (Err error) records words old new result is status = absurd (cc)
+-- what is written
+pub written : {W : Type 0} (contents : W → Option (List ℕ)) (read : Result PlanModel TextError) (records : List (List (List ℕ))) (words : Words) (old new : Sink W) (result : Result ℕ CliFault)
+    → IsExplainedOf read records (Ok words) → WritesWords contents words.found old new result → WhyAnswers contents read records old new result
+written contents (Ok plan) records words old new result is writes = subst (λ found. WritesWords contents found old new result) is writes
+written contents (Err error) records words old new result is writes = absurd (cc)
 
-pub told-answers : {W : Type 0} (read : Result PlanModel TextError) (records : List (List (List ℕ))) (words : Explained) (old new : Sink W) (result : Result ℕ CliFault)
-    → OrUnread {A = Explained} (Ok words) (IsExplainedOf read records (Ok words)) → result ≡ answered (answer_to words.found) new → OrUnread result (WhyAnswers read records old new result)
-told-answers read records words old new result explained status = elim explained [
-  | inl e ↦ absurd (cc)
-  | inr k ↦ elim k [
-    | inl e ↦ absurd (cc)
-    | inr e ↦ inr (inr (told-of read records words old new result e status))
-  ]
-]
-
--- where there are none
-unexplained : (read : Result PlanModel TextError) (records : List (List (List ℕ))) (fault : CliFault) (Holds : Result PlanModel TextError → Type 0) → IsExplainedOf read records (Err fault) → ((error : TextError) → fault ≡ fault_of error → Holds (Err error)) → Holds read
-unexplained (Ok plan) records fault Holds is f = absurd is
-unexplained (Err error) records fault Holds is f = let same : fault ≡ fault_of error = cc in f error same
-
-pub unexplained-or : {A : Type 0} (read : Result PlanModel TextError) (records : List (List (List ℕ))) (fault : CliFault) (answer : Result A CliFault) (Holds : Result PlanModel TextError → Type 0)
-    → OrUnread {A = Explained} (Err fault) (IsExplainedOf read records (Err fault)) → answer ≡ Err fault → ((error : TextError) → fault ≡ fault_of error → Holds (Err error)) → OrUnread answer (Holds read)
-unexplained-or read records fault answer Holds explained gives f = elim explained [
-  | inl e ↦ let same : fault ≡ ReadFault = cc in inl (gives ∙ ap (λ x. Err x) same)
-  | inr k ↦ elim k [
-    | inl e ↦ let same : fault ≡ NoMemory = cc in inr (inl (gives ∙ ap (λ x. Err x) same))
-    | inr is ↦ inr (inr (unexplained read records fault Holds is f))
-  ]
-]
+pub unwritten : {W : Type 0} (contents : W → Option (List ℕ)) (read : Result PlanModel TextError) (records : List (List (List ℕ))) (fault : CliFault) (old new : Sink W) (result : Result ℕ CliFault)
+    → IsExplainedOf read records (Err fault) → result ≡ Err fault → new ≡ old → WhyAnswers contents read records old new result
+unwritten contents (Ok plan) records fault old new result is gives same = absurd is
+unwritten contents (Err error) records fault old new result is gives same = let f : fault ≡ fault_of error = cc in (gives ∙ ap (λ x. Err x) f, same)

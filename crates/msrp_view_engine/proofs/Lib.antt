@@ -1,4 +1,3 @@
+pub mod Answering
 pub mod Explaining
 pub mod ReadThrough
-pub mod Recounting
-pub mod Picturing

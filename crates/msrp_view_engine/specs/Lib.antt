@@ -1,6 +1,2 @@
-pub mod Statuses
-pub mod Views
-pub mod Explaining
+pub mod Answers
 pub mod Whys
-pub mod Inside
-pub mod Exporting

@@ -1,7 +1,10 @@
 -- Why a trace is no legal run: what is found, and what it rests on.
-use Rattle.std.specs.Prelude.{◌≡◌, ◌⊎◌, ◌+◌}
-use Rattle.msrp_plan.specs.Common.{ℕ, List, Option, Some, Ok, Err, IfSome, IsOkAnd, ⊤, Result, PlanModel}
+use Rattle.std.specs.Prelude.{◌≡◌, ◌⊎◌, ◌+◌, ◌++◌, ◌∷◌}
+use Rattle.msrp_plan.specs.Common.{ℕ, List, [], Option, None, Some, Ok, Err, IfOk, IfSome, IsOkAnd, ⊤, Result, PlanModel, Wrote}
 use Rattle.msrp_plan.specs.declared.bytes.Sink.{Sink}
+use Rattle.msrp_plan.specs.declared.faults.Fault.{Fault}
+use Rattle.msrp_plan.specs.declared.rows.Row.{Row}
+use Rattle.msrp_audit.specs.Audits.{AuditorModel, HasFed, IsBroken}
 use Rattle.msrp_text.specs.declared.reading.TextError.{TextError}
 use Rattle.msrp_text.specs.Lines.{BeginsIn}
 use Rattle.msrp_trace.specs.Reading.{Told, rows_of}
@@ -10,14 +13,20 @@ use Rattle.msrp_trace.specs.declared.faults.TraceError.TheVariants.{At, Read, Me
 use Rattle.msrp_why.specs.Causes.{IsGroundOf}
 use Rattle.msrp_why.specs.declared.causes.Ground.{Ground}
 use Rattle.msrp_why.specs.declared.causes.Ground.TheVariants.{End, Row as AtRow}
-use Rattle.msrp_engine.specs.Findings.{finding}
+use Rattle.msrp_engine.specs.Findings.{finding, finding_of}
 use Rattle.msrp_engine.specs.MadeTexts.{found_in}
 use Rattle.msrp_engine.specs.declared.made.Made.{Made}
 use Rattle.msrp_faults.specs.Outcomes.{answered, fault_of, trace_fault_of}
 use Rattle.msrp_faults.specs.declared.faults.CliFault.{CliFault}
-use Rattle.msrp_view_engine.specs.Statuses.{answer_to}
-use Rattle.msrp_view_engine.specs.declared.why.Explained.{Explained}
+use Rattle.msrp_view_engine.specs.Answers.{BeginsWith, Refuses, answer_to}
+use Rattle.msrp_view_engine.specs.declared.why.Broken.{Broken}
 use Rattle.msrp_view_engine.specs.declared.why.Judged.{Judged}
+use Rattle.msrp_view_engine.specs.declared.words.Words.{Words}
+
+-- after rows without a fault, the next row is fed too, or it violates a rule
+abbrev pub IsNextJudged : PlanModel → List Row → Row → Result ⊤ Broken → AuditorModel → Type 0
+IsNextJudged plan rows r (Ok legal) auditor = HasFed auditor (rows ++ r ∷ []) × (auditor.fault ≡ None)
+IsNextJudged plan rows r (Err broken) auditor = IsBroken plan rows r broken.fault broken.expected auditor
 
 -- what an audit of these rows finds, with the cause; or the refusal behind them, but for a read that failed and for memory
 abbrev pub IsJudged : PlanModel → Told → Result Judged TraceError → Type 0
@@ -34,21 +43,23 @@ abbrev pub BeginsRefused : List ℕ → TraceError → Option ℕ → Type 0
 BeginsRefused bytes (At fault number) line = IfSome line (BeginsIn bytes number)
 BeginsRefused bytes _ line = ⊤
 
--- the words are on what is found in the rows that are told
-abbrev pub IsExplained : PlanModel → Told → Explained → Type 0
-IsExplained plan told words = words.found ≡ finding plan told
-
--- the same of a text that stands for a plan, or of one that is refused, and of the records of a trace's text
-abbrev pub IsExplainedOf : Result PlanModel TextError → List (List (List ℕ)) → Result Explained CliFault → Type 0
-IsExplainedOf (Ok plan) records answer = IsOkAnd answer (IsExplained plan (rows_of plan records))
+-- the words on a text that stands for a plan, or on one that is refused, and on the records of a trace's text
+abbrev pub IsExplainedOf : Result PlanModel TextError → List (List (List ℕ)) → Result Words CliFault → Type 0
+IsExplainedOf (Ok plan) records answer = IsOkAnd answer (λ words. words.found ≡ finding plan (rows_of plan records))
 IsExplainedOf (Err error) records answer = answer ≡ Err (fault_of error)
 
--- the answer in memory
+-- the verdict, and the words on it in memory
 abbrev pub IsWhyOf : Result PlanModel TextError → List (List (List ℕ)) → Result Made CliFault → Type 0
-IsWhyOf (Ok plan) records answer = found_in answer ≡ finding plan (rows_of plan records)
-IsWhyOf (Err error) records answer = answer ≡ Err (fault_of error)
+IsWhyOf plan records made = (found_in made ≡ finding_of plan records) × IfOk made (λ words. BeginsWith (Ok words.found) words.text.items)
 
--- the answer where the words are written: of a refused plan there are none
-abbrev pub WhyAnswers : {W : Type 0} → Result PlanModel TextError → List (List (List ℕ)) → Sink W → Sink W → Result ℕ CliFault → Type 0
-WhyAnswers (Ok plan) records old new result = result ≡ answered (answer_to (finding plan (rows_of plan records))) new
-WhyAnswers (Err error) records old new result = (result ≡ Err (fault_of error)) × (new ≡ old)
+-- words are written that begin so, and that is answered
+pub record WritesWords {W : Type 0} (contents : W → Option (List ℕ)) (found : Result (Result ⊤ Fault) CliFault) (old new : Sink W) (result : Result ℕ CliFault) : Type 0 where
+  pub text : List ℕ
+  pub begins : BeginsWith found text
+  pub wrote : Wrote contents old new text
+  pub status : result ≡ answered (answer_to found) new
+
+-- the answer where the words are written: a refused plan has none
+abbrev pub WhyAnswers : {W : Type 0} → (W → Option (List ℕ)) → Result PlanModel TextError → List (List (List ℕ)) → Sink W → Sink W → Result ℕ CliFault → Type 0
+WhyAnswers contents (Ok plan) records old new result = WritesWords contents (finding plan (rows_of plan records)) old new result
+WhyAnswers contents (Err error) records old new result = Refuses (fault_of error) old new result

@@ -7,9 +7,9 @@ ghost use Rattle.msrp_engine.specs.Answered.{Ends, IsVerdict, OfText, OfTexts, R
 ghost use Rattle.msrp_engine.specs.Findings.{finding};
 ghost use Rattle.msrp_engine.specs.Judging.{rows_left};
 ghost use Rattle.msrp_faults.specs.Outcomes.{is_audit_fault, is_trace_fault};
-ghost use Rattle.msrp_view_engine.specs.Exporting.{ExportAnswers, ExportTold};
+ghost use Rattle.msrp_view_engine.specs.Answers.{ExportAnswers, export_answer};
 
-use crate::statuses::answer_to;
+use crate::words::answer_to;
 use msrp_audit::Auditor;
 use msrp_engine::{CliFault, JudgedRows, Judgement, settled};
 use msrp_export::{Exporter, Format};
@@ -97,7 +97,7 @@ fn export_plan<T: Read, W: Write>(
     out: &mut Sink<W>,
     format: Format,
 ) -> Result<u8, CliFault>
-    ensures answer { OfText T.remaining trace.old result (λ records. ExportTold plan.now (rows_of plan.now records) out.new result) }
+    ensures answer { OfText T.remaining trace.old result (λ records. result ≡ export_answer (finding plan.now (rows_of plan.now records)) out.new) }
     ensures wrote { WroteSome W.contents out.old out.new }
     ensures ends { Ends IsVerdict (λ fault. (is_trace_fault fault ≡ true) ⊎ (fault ≡ CliFault.Write)) out.new result }
 {
@@ -107,7 +107,7 @@ fn export_plan<T: Read, W: Write>(
 }
 
 /// Reads a plan and a trace of it, whoever made it, and writes the trace in a format: all of a legal run, and else the rows
-/// before the first that breaks a rule, and the fault. The answer is the exit status of an audit, 0 or 1.
+/// before the first that violates a rule, and the fault. The answer is the exit status of an audit, 0 or 1.
 ///
 /// The rows are judged as they come and written a tick at a time, and no list of them is kept. So where a record of the trace is refused, or a read fails,
 /// the rows before it may have been written. Of a refused plan nothing is.

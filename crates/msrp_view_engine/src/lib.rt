@@ -1,16 +1,16 @@
-//! The engines of the second program, from bytes to bytes, over any reader and writer, as those of `msrp_engine` are: a picture of a trace
-//! (`view`), a trace in the format of another tool (`export`), a verdict with what makes it so (`why`), and words on a plan (`why_plan`).
-//! They stand in a crate of their own so that the first program waits for none of their proofs.
+//! The engines of the second program, from bytes to bytes, over any reader and writer: the picture of a trace (`view`), a trace in the
+//! format of another tool (`export`), a verdict with its reasons (`why`), and what is wrong or odd in a plan (`why_plan`). The first
+//! program doesn't wait for their proofs.
 #![tactic(auto)]
 
 mod export;
-mod reading;
-mod statuses;
 mod view;
 mod why;
 mod why_plan;
+mod words;
 
 pub use export::export_text;
 pub use view::{picture_of_texts, view_text};
 pub use why::{why_of_texts, why_text};
-pub use why_plan::{Refusal, Words, why_of_plan, why_plan_text};
+pub use why_plan::{why_of_plan, why_plan_text};
+pub use words::Words;

@@ -1,40 +1,41 @@
 //! The picture of a trace's text.
-ghost use Rattle.std.specs.Prelude.{◌≡◌, ◌⊎◌};
-ghost use Rattle.msrp_plan.specs.Common.{true, Ok, Err, IfOk, IfErr, verdict, WroteSome};
-ghost use Rattle.msrp_audit.specs.Audits.{answer_of};
+ghost use Rattle.std.specs.Prelude.{◌≡◌};
+ghost use Rattle.msrp_plan.specs.Common.{[], true, Some, Err, IfErr, WroteSome};
 ghost use Rattle.msrp_faults.specs.Outcomes.{is_trace_fault, is_view_fault};
 ghost use Rattle.msrp_picture.specs.Windows.{IsWindow};
-ghost use Rattle.msrp_trace.specs.Reading.{rows_of};
-ghost use Rattle.msrp_engine.specs.Answered.{Answered, OfText, OfTexts, ReadsBoth};
+ghost use Rattle.msrp_trace.specs.Reading.{Told, rows_of};
+ghost use Rattle.msrp_trace.specs.Readers.{told_left};
+ghost use Rattle.msrp_engine.specs.Answered.{Answered, OfText, OfTexts, OrUnread, ReadsBoth};
 ghost use Rattle.msrp_engine.specs.MadeTexts.{found_in};
-ghost use Rattle.msrp_view_engine.specs.Views.{IsPictureOf, IsPictureTold, ViewAnswers};
+ghost use Rattle.msrp_view_engine.specs.Answers.{IsPictureOf, ViewAnswers, rows_in, rows_read, verdict_on};
 
-use crate::reading::read_rows;
-use crate::statuses::answer_to;
+use crate::words::answer_to;
 use msrp_audit::audit;
 use msrp_engine::{CliFault, Made, settled, write_answer};
 use msrp_picture::{Asked, Window, draw, window_of};
 use msrp_plan::bytes::{Sink, Source};
-use msrp_plan::{Plan, Trace};
+use msrp_plan::{Plan, Row, Trace};
 use msrp_text::read_plan;
+use msrp_trace::TraceReader;
 use std::alloc::Global;
 use std::io::{Read, Write};
 
-// The picture of rows, in memory.
-fn pictured(
-    alloc: Global,
-    plan: &Plan,
-    trace: &Trace,
-    asked: Asked,
-    window: Window,
-) -> Result<Made, CliFault>
-    requires { IsWindow window }
-    ensures found { (result ≡ Err CliFault.Memory) ⊎ (found_in result ≡ Ok (answer_of (verdict plan.now trace.now.rows.items))) }
-    ensures memory { IfErr result (λ fault. fault ≡ CliFault.Memory) }
+// All rows that a reader has left.
+fn gather_rows<T: Read>(
+    rows: &mut TraceReader<'_, T>,
+    mut gathered: Vec<Row>,
+) -> Result<Trace, CliFault>
+    requires { gathered.items ≡ [] }
+    ensures rows { (told : Told) → told_left T.remaining rows.old ≡ Some told → OrUnread result (rows_in result ≡ rows_read told) }
+    ensures faults { IfErr result (λ fault. is_trace_fault fault ≡ true) }
 {
-    let found = audit(alloc, plan, trace)?;
-    let text = draw(alloc, plan, trace.rows.as_slice(), found, asked, window)?;
-    Ok(Made { text, found })
+    for _row in 0..u64::MAX {
+        match rows.next_row()? {
+            Some(row) => gathered.push(row)?,
+            None => return Ok(Trace { rows: gathered }),
+        }
+    }
+    Err(CliFault::Memory)
 }
 
 // The picture of a trace of an accepted plan, in memory. Whatever ends the reading early may be told as a failed read.
@@ -46,11 +47,16 @@ fn picture_of<T: Read>(
     window: Window,
 ) -> Result<Made, CliFault>
     requires { IsWindow window }
-    ensures found { OfText T.remaining trace.old result (λ records. IsPictureTold plan.now (rows_of plan.now records).rows (rows_of plan.now records).refusal result) }
+    ensures found { OfText T.remaining trace.old result (λ records. found_in result ≡ verdict_on plan.now (rows_read (rows_of plan.now records))) }
     ensures faults { IfErr result (λ fault. is_trace_fault fault ≡ true) }
 {
-    let trace = read_rows(alloc, plan, trace)?;
-    pictured(alloc, plan, &trace, asked, window)
+    let mut rows = TraceReader::new(alloc, trace, plan)?;
+    let gathered = gather_rows(&mut rows, Vec::new(alloc));
+    drop(rows);
+    let trace = gathered?;
+    let found = audit(alloc, plan, &trace)?;
+    let text = draw(alloc, plan, trace.rows.as_slice(), found, asked, window)?;
+    Ok(Made { text, found })
 }
 
 /// The picture of a trace of a plan, whoever made it, with the verdict on its rows, as [`view_text`] writes it.
@@ -74,8 +80,8 @@ pub fn picture_of_texts<P: Read, T: Read>(
 }
 
 /// Reads a plan and a trace of it, whoever made it, and writes a picture of the ticks that are asked for. The answer is the exit
-/// status of an audit: 0 for a legal run, and 1 else; then the picture shows the rows before the first that breaks a rule, and
-/// that one, and in SVG also what stands behind it. It is [`CliFault::Usage`] where the plan doesn't have such ticks.
+/// status of an audit: 0 for a legal run, and 1 else; then the picture shows the rows before the first that violates a rule, and
+/// that one, and in SVG also what follows it. It is [`CliFault::Usage`] where the plan doesn't have such ticks.
 ///
 /// All memory is taken before anything is written: so whatever the fault, but a write fault, nothing was written. A trace of
 /// which a record is refused isn't drawn. A refused plan is told whatever the trace.

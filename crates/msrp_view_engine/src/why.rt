@@ -1,28 +1,30 @@
-//! Why a trace is no legal run: the verdict, the row that breaks a rule, and what was due.
+//! Why a trace is no legal run: the verdict, the row that violates a rule, and the row expected in its place.
 ghost use Rattle.std.specs.Prelude.{◌≡◌, ◌⊎◌, ◌+◌};
-ghost use Rattle.msrp_plan.specs.Common.{ℕ, List, [], true, Ok, Some, Err, IfOk, IfErr, IfSome, WroteSome};
+ghost use Rattle.msrp_plan.specs.Common.{ℕ, List, [], true, Ok, Some, None, Err, IfOk, IfErr, IfSome, WroteSome};
+ghost use Rattle.msrp_plan.specs.declared.rows.Row.{Row as TraceRow};
 ghost use Rattle.msrp_audit.specs.Audits.{HasFed};
 ghost use Rattle.msrp_text.specs.Lines.{BeginsIn};
 ghost use Rattle.msrp_trace.specs.Reading.{Told, rows_of};
 ghost use Rattle.msrp_trace.specs.Readers.{HasReadBehind, HasReadIn, told_left};
-ghost use Rattle.msrp_engine.specs.Answered.{Ends, IsVerdict, ReadsBoth, OfText, OfTexts};
-ghost use Rattle.msrp_engine.specs.MadeTexts.{found_in};
+ghost use Rattle.msrp_engine.specs.Answered.{Ends, IsVerdict, ReadsBoth, OfText, OfTexts, OrUnread};
+ghost use Rattle.msrp_engine.specs.Findings.{finding};
 ghost use Rattle.msrp_faults.specs.Outcomes.{is_audit_fault, is_plan_fault, trace_fault_of};
 ghost use Rattle.msrp_why.specs.Noted.{AreNoted};
-ghost use Rattle.msrp_view_engine.specs.Statuses.{is_record_fault};
-ghost use Rattle.msrp_view_engine.specs.Whys.{BeginsRefused, BeginsRow, IsExplained, IsExplainedOf, IsJudged, IsWhyOf, WhyAnswers};
+ghost use Rattle.msrp_view_engine.specs.Answers.{AreOnTrace, is_record_fault};
+ghost use Rattle.msrp_view_engine.specs.Whys.{BeginsRefused, BeginsRow, IsExplainedOf, IsJudged, IsNextJudged, IsWhyOf, WhyAnswers};
 
-use crate::statuses::answer_to;
+use crate::words::{Words, answer_to};
 use csv::ByteRecord;
 use msrp_audit::Auditor;
 use msrp_engine::{CliFault, Made, gathered_text, settled, write_answer};
 use msrp_levels::Levels;
 use msrp_plan::bytes::{Sink, Source};
-use msrp_plan::{Fault, Plan, TextVersion};
+use msrp_plan::{Fault, Plan, Row, TextVersion};
 use msrp_text::read_plan;
 use msrp_trace::{TraceError, TraceReader};
 use msrp_why::{Exercise, Ground, Missing, Notes, RefusedRecord, Why, cause_of};
-use std::alloc::{AllocError, Global};
+use std::alloc::Global;
+use std::fmt::Display;
 use std::io::{Read, Write};
 
 // A verdict, with what it stands on.
@@ -32,11 +34,11 @@ struct Judged {
     ground: Ground,
 }
 
-// Words on a trace that were made in memory, and what an audit of it answers: a verdict, or the refusal of a record.
-#[derive(Debug, Drop)]
-struct Explained {
-    text: Vec<u8>,
-    found: Result<Result<(), Fault>, CliFault>,
+// Why a row is refused: the fault, and the expected row of its core, where the row is in its turn.
+#[derive(Clone, Copy, Debug)]
+struct Broken {
+    expected: Option<Row>,
+    fault: Fault,
 }
 
 // The line in which the record of a faulty row begins, where it is known. The record before that of the first row is the head.
@@ -57,7 +59,28 @@ fn line_of_refused<T: Read>(reader: &TraceReader<'_, T>, error: TraceError) -> O
     }
 }
 
-// What is found in the rows that a reader has left. They are judged as they come, and none is read after a faulty one.
+// Judges the next row, as long as none has violated a rule.
+fn judge(auditor: &mut Auditor<'_>, row: Row) -> Result<(), Broken>
+    ensures plan { auditor.new.plan ≡ auditor.old.plan }
+    ensures judged { (rows : List TraceRow) → HasFed auditor.old rows → auditor.old.fault ≡ None → IsNextJudged auditor.old.plan rows row result auditor.new }
+{
+    if !auditor.is_in_turn(row) {
+        return Err(Broken {
+            expected: None,
+            fault: auditor.fault_out_of_turn(),
+        });
+    }
+    let expected = auditor.turn(row.core);
+    match auditor.judge(expected, row) {
+        Ok(()) => Ok(()),
+        Err(fault) => Err(Broken {
+            expected: Some(expected),
+            fault,
+        }),
+    }
+}
+
+// What is found in the rows that a reader has left. They are judged as they are read, and none is read after a faulty one.
 fn judge_rows<T: Read>(
     plan: &Plan,
     levels: &Levels<'_>,
@@ -75,21 +98,13 @@ fn judge_rows<T: Read>(
 {
     while let Some(row) = rows.next_foreseen(|core| auditor.foresee(core))? {
         let state = auditor.state(row.core);
-        if !auditor.is_in_turn(row) {
-            let fault = auditor.fault_out_of_turn();
+        if let Err(broken) = judge(auditor, row) {
+            let Broken { expected, fault } = broken;
             let line = line_of_row(rows, fault);
+            let cause = cause_of(plan, auditor, notes, state, expected, row, line, fault);
             return Ok(Judged {
                 verdict: Err(fault),
-                ground: Ground::Row(cause_of(plan, auditor, notes, state, None, row, line, fault)),
-            });
-        }
-        let due = auditor.turn(row.core);
-        if let Err(fault) = auditor.judge(due, row) {
-            let line = line_of_row(rows, fault);
-            let due = Some(due);
-            return Ok(Judged {
-                verdict: Err(fault),
-                ground: Ground::Row(cause_of(plan, auditor, notes, state, due, row, line, fault)),
+                ground: Ground::Row(cause),
             });
         }
         notes.note(plan, levels, state, row);
@@ -100,51 +115,53 @@ fn judge_rows<T: Read>(
     })
 }
 
-// Writes what makes the verdict so, after its record. Rows are shown as in a trace of this version.
-fn write_ground<W: Write>(
-    out: &mut Sink<W>,
+// A verdict with these words, in memory.
+fn words_with<T: Display>(
+    alloc: Global,
+    verdict: Result<(), Fault>,
+    reasons: &T,
+) -> Result<Words, CliFault>
+    ensures found { IfOk result (λ words. words.found ≡ Ok verdict) }
+    ensures words { IfOk result AreOnTrace }
+    ensures memory { IfErr result (λ fault. fault ≡ CliFault.Memory) }
+{
+    let mut text = Sink::new(Vec::new(alloc));
+    text.verdict(verdict);
+    text.show(reasons, &mut String::new(alloc))?;
+    Ok(Words {
+        text: gathered_text(text)?,
+        found: Ok(verdict),
+    })
+}
+
+// The words on a verdict, in memory. Rows are shown as in a trace of this version.
+fn words_on(
+    alloc: Global,
     plan: &Plan,
     levels: &Levels<'_>,
     version: TextVersion,
     judged: &Judged,
-    line: &mut String,
-) -> Result<(), AllocError>
+) -> Result<Words, CliFault>
     requires levels { levels.now ≡ plan.now }
+    ensures found { IfOk result (λ words. words.found ≡ Ok judged.now.verdict) }
+    ensures words { IfOk result AreOnTrace }
+    ensures memory { IfErr result (λ fault. fault ≡ CliFault.Memory) }
 {
-    match (&judged.ground, judged.verdict) {
-        (Ground::Row(cause), _) => out.show(&Why::new(plan, levels, version, cause), line),
-        (Ground::End(notes), Ok(())) => out.show(&Exercise { plan, notes }, line),
+    let verdict = judged.verdict;
+    match (&judged.ground, verdict) {
+        (Ground::Row(cause), _) => {
+            words_with(alloc, verdict, &Why::new(plan, levels, version, cause))
+        }
+        (Ground::End(notes), Ok(())) => words_with(alloc, verdict, &Exercise { plan, notes }),
         (Ground::End(notes), Err(_)) => {
             let missing = Missing {
                 plan,
                 version,
                 notes,
             };
-            out.show(&missing, line)
+            words_with(alloc, verdict, &missing)
         }
     }
-}
-
-// The words on a verdict, in memory.
-fn words_on(
-    alloc: Global,
-    plan: &Plan,
-    levels: &Levels<'_>,
-    version: TextVersion,
-    judged: Judged,
-) -> Result<Explained, CliFault>
-    requires levels { levels.now ≡ plan.now }
-    ensures found { IfOk result (λ words. words.found ≡ Ok judged.verdict) }
-    ensures memory { IfErr result (λ fault. fault ≡ CliFault.Memory) }
-{
-    let mut text = Sink::new(Vec::new(alloc));
-    let mut line = String::new(alloc);
-    text.verdict(judged.verdict);
-    write_ground(&mut text, plan, levels, version, &judged, &mut line)?;
-    Ok(Explained {
-        text: gathered_text(text)?,
-        found: Ok(judged.verdict),
-    })
 }
 
 // The words on a refused record, in memory.
@@ -154,26 +171,23 @@ fn words_on_refusal(
     error: TraceError,
     line: Option<u64>,
     row: &ByteRecord,
-) -> Result<Explained, CliFault>
+) -> Result<Words, CliFault>
     ensures found { IfOk result (λ words. words.found ≡ Err (trace_fault_of error)) }
-    ensures refused { IfOk result (λ words. IfErr words.found (λ fault. is_record_fault fault ≡ true)) }
+    ensures words { IfOk result AreOnTrace }
     ensures fault { IfErr result (λ fault. (fault ≡ CliFault.Memory) ⊎ (fault ≡ CliFault.Read)) }
 {
     let TraceError::At { fault, number } = error else {
         return Err(CliFault::from(error));
     };
-    let mut text = Sink::new(Vec::new(alloc));
-    let mut buffer = String::new(alloc);
-    let refused = RefusedRecord {
+    let record = RefusedRecord {
         plan,
         fault,
         number,
         line,
         row,
     };
-    text.show(&refused, &mut buffer)?;
-    Ok(Explained {
-        text: gathered_text(text)?,
+    Ok(Words {
+        text: format!(in alloc; "{record}")?.into_bytes(),
         found: Err(CliFault::from(error)),
     })
 }
@@ -184,16 +198,16 @@ fn explain_rows<T: Read>(
     plan: &Plan,
     levels: &Levels<'_>,
     rows: &mut TraceReader<'_, T>,
-) -> Result<Explained, CliFault>
+) -> Result<Words, CliFault>
     requires levels { levels.now ≡ plan.now }
-    ensures explained { (told : Told) → told_left T.remaining rows.old ≡ Some told → (result ≡ Err CliFault.Read) ⊎ (result ≡ Err CliFault.Memory) ⊎ IfOk result (IsExplained plan.now told) }
-    ensures refused { IfOk result (λ words. IfErr words.found (λ fault. is_record_fault fault ≡ true)) }
-    ensures faults { IfErr result (λ fault. (fault ≡ CliFault.Memory) ⊎ (fault ≡ CliFault.Read)) }
+    ensures explained { (told : Told) → told_left T.remaining rows.old ≡ Some told → OrUnread result (IfOk result (λ words. words.found ≡ finding plan.now told)) }
+    ensures words { IfOk result AreOnTrace }
+    ensures fault { IfErr result (λ fault. (fault ≡ CliFault.Memory) ⊎ (fault ≡ CliFault.Read)) }
 {
     let mut auditor = Auditor::with_room(alloc, plan, levels)?;
     let notes = Notes::with_room(alloc, plan)?;
     match judge_rows(plan, levels, &mut auditor, notes, rows) {
-        Ok(judged) => words_on(alloc, plan, levels, rows.version(), judged),
+        Ok(judged) => words_on(alloc, plan, levels, rows.version(), &judged),
         Err(error) => {
             let line = line_of_refused(rows, error);
             words_on_refusal(alloc, plan, error, line, rows.record())
@@ -206,10 +220,10 @@ fn explain_all<T: Read>(
     alloc: Global,
     plan: &Plan,
     trace: &mut Source<T>,
-) -> Result<Explained, CliFault>
-    ensures explained { OfText T.remaining trace.old result (λ records. IfOk result (IsExplained plan.now (rows_of plan.now records))) }
-    ensures refused { IfOk result (λ words. IfErr words.found (λ fault. is_record_fault fault ≡ true)) }
-    ensures faults { IfErr result (λ fault. (fault ≡ CliFault.Memory) ⊎ (fault ≡ CliFault.Read)) }
+) -> Result<Words, CliFault>
+    ensures explained { OfText T.remaining trace.old result (λ records. IfOk result (λ words. words.found ≡ finding plan.now (rows_of plan.now records))) }
+    ensures words { IfOk result AreOnTrace }
+    ensures fault { IfErr result (λ fault. (fault ≡ CliFault.Memory) ⊎ (fault ≡ CliFault.Read)) }
 {
     let levels = Levels::of(alloc, plan)?;
     let mut rows = match TraceReader::open(alloc, trace, plan) {
@@ -228,28 +242,15 @@ fn explain<P: Read, T: Read>(
     alloc: Global,
     plan: &mut Source<P>,
     trace: &mut Source<T>,
-) -> Result<Explained, CliFault>
+) -> Result<Words, CliFault>
     ensures explained { OfTexts P.remaining T.remaining plan.old trace.old result (λ plan records. IsExplainedOf plan records result) }
-    ensures refused { IfOk result (λ words. IfErr words.found (λ fault. is_record_fault fault ≡ true)) }
+    ensures words { IfOk result AreOnTrace }
     ensures reads { ReadsBoth P.remaining plan.old plan.new trace.old trace.new result }
     ensures faults { IfErr result (λ fault. is_plan_fault fault ≡ true) }
 {
     let plan = read_plan(alloc, plan)?;
     let words = explain_all(alloc, &plan, trace);
     settled(words, trace)
-}
-
-// The words on a verdict; of a refusal there are none.
-fn made_of(words: Explained) -> Result<Made, CliFault>
-    ensures { found_in result ≡ words.found }
-{
-    match words.found {
-        Ok(found) => Ok(Made {
-            text: words.text,
-            found,
-        }),
-        Err(fault) => Err(fault),
-    }
 }
 
 /// The verdict on a trace of a plan, whoever made it, and the words on it, as [`why_text`] writes them.
@@ -264,11 +265,17 @@ pub fn why_of_texts<P: Read, T: Read>(
     ensures unwritten { ¬ (result ≡ Err CliFault.Write) }
 {
     let words = explain(alloc, plan, trace)?;
-    made_of(words)
+    match words.found {
+        Ok(found) => Ok(Made {
+            text: words.text,
+            found,
+        }),
+        Err(fault) => Err(fault),
+    }
 }
 
 /// Reads a plan and a trace of it, whoever made it, and writes the verdict as [`audit_text`](crate::audit_text) does, and behind
-/// it, in plain sentences, what makes it so: the first row that breaks a rule, the rule, the row that was due in its place, and
+/// it, in plain sentences, what makes it so: the first row that violates a rule, the rule, the row expected in its place, and
 /// the facts that the rule needs; of a legal trace, what its run exercised. The answer is the exit status, 0 or 1. Of a trace with a
 /// refused record it writes the code, the field that is wrong, what it should be, and the record as it stands; the answer is the refusal. Of a row
 /// and of a refused record it tells the line in which its record begins, where that is known.
@@ -283,7 +290,7 @@ pub fn why_text<P: Read, T: Read, W: Write>(
 ) -> Result<u8, CliFault>
     // Where the readers tell their bytes, and no read failed and no memory was refused, the answer is that to
     // the plan and the rows that they stand for.
-    ensures answer { OfTexts P.remaining T.remaining plan.old trace.old result (λ plan records. WhyAnswers plan records out.old out.new result) }
+    ensures answer { OfTexts P.remaining T.remaining plan.old trace.old result (λ plan records. WhyAnswers W.contents plan records out.old out.new result) }
 
     // Whatever the readers tell.
     ensures wrote { WroteSome W.contents out.old out.new }

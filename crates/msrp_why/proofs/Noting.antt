@@ -1,6 +1,6 @@
 -- What is noted of the resources stays what the rows say, one row more.
 use Rattle.std.proofs.Common.{◌≡◌, ◌≢◌, ◌+◌, ◌-◌, ◌^◌, ◌<◌, ◌≤◌, ◌&&◌, ◌∷◌, ◌++◌, ◌∙◌, ◌||◌}
-use Rattle.msrp_plan.proofs.Common.{ℕ, suc, min, Bool, true, false, cond, List, [], Option, Some, None, refl, ap, sym, subst, arith, length, length-append, length-drop, drop, append-nil, is_some, map, slice_get, Contains, cons_option, filter, true≢false, and_parts, drop-append-le, drop-drop, length-map, filter-append, fold_push, sum_by_push, PlanModel, has_shape, is_global, resources, done, holds, is_queued, is_global_unit, res_of_unit, fifo, is_first, is_on, is_release, is_release_of, is_request, requester, EachAfter, IsLegal, IsRunStart, IsPlan, same_is, in_resources, DoesUnit, legal_turn, places_push, not_equal, each_at, each_before, units_lock, Grants, Locks, Releases, Runs, Spins, Takes, Unlocks, step_of, list_any, range_with_len, zero, slice_set}
+use Rattle.msrp_plan.proofs.Common.{ℕ, zero, suc, min, Bool, true, false, cond, List, [], Option, Some, None, refl, ap, sym, subst, arith, length, length-append, length-drop, drop, append-nil, is_some, map, slice_get, slice_set, Contains, cons_option, filter, true≢false, and_parts, drop-append-le, drop-drop, length-map, filter-append, fold_push, sum_by_push, PlanModel, has_shape, is_global, resources, done, holds, is_queued, is_global_unit, res_of_unit, fifo, is_first, is_on, is_release, is_release_of, is_request, requester, EachAfter, IsLegal, IsRunStart, IsPlan, same_is, in_resources, DoesUnit, legal_turn, places_push, not_equal, each_at, each_before, units_lock, Grants, Locks, Releases, Runs, Spins, Takes, Unlocks, step_of, list_any, range_with_len}
 use Rattle.msrp_plan.specs.declared.ids.JobId.{JobId}
 use Rattle.msrp_plan.specs.declared.ids.ResId.{ResId}
 use Rattle.msrp_plan.specs.declared.rows.Kind.{Kind}
@@ -17,12 +17,12 @@ use Rattle.msrp_plan.proofs.Queues.Fifos.{IsFed, fifo_request, released, request
 use Rattle.msrp_plan.proofs.Queues.QueueMembers.{queue_at, queue_short}
 use Rattle.msrp_plan.proofs.TaskUnits.Stands.{holder_stands}
 use Rattle.msrp_plan.proofs.TaskUnits.UnitKinds.{Queues}
-use Rattle.msrp_why.specs.Noted.{IsNoted, AreResourceCounts, is_inside, is_user}
+use Rattle.msrp_why.specs.Noted.{AreResourceCounts, is_inside, is_user, IsNoted}
+use Rattle.msrp_why.specs.Inside.{IsCountStep, last_with, queue_with}
 use Rattle.msrp_why.specs.NumberedRows.{changes, is_change, job_of, last_change, last_row, numbered, queue_rows, requests}
 use Rattle.msrp_why.specs.declared.notes.Numbered.{Numbered}
 use Rattle.msrp_why.specs.declared.notes.ResourceNotes.{ResourceNotes}
 use Rattle.msrp_why.proofs.Exercising.{counts_off, counts_on, few_before}
-use Rattle.msrp_why.specs.Inside.{IsCountStep, last_with, queue_with}
 
 -- ---- the rows with their numbers, one more
 numbered_push : (n : ℕ) (rows : List Row) (r : Row) → numbered n (rows ++ r ∷ []) ≡ numbered n rows ++ record { number = n + length rows + 1; row = r } ∷ []

@@ -1,19 +1,19 @@
 -- What is noted of a run as its rows are judged: who holds and awaits each resource, and what the run exercised, in numbers of its rows. A trace in
 -- which nothing happens is legal too.
-use Rattle.std.specs.Prelude.{◌≡◌, ◌∷◌, ◌++◌, ◌+◌, ◌^◌, ◌-◌, ◌==◌, ◌&&◌, if◌then◌else◌, ◌||◌, ◌<◌}
-use Rattle.msrp_plan.specs.Common.{ℕ, List, Some, length, slice_get, log_of, PlanModel, [], Bool, true, false, not, nat_le, nat_lt, min, max, Option, None, count_after, ceiling, head, running, done, is_waiting, same_job, level, key, units, is_on, list_any, range_with_len, is_job, same_kind, is_grant, is_queue, IsSomeAnd}
-use Rattle.msrp_plan.specs.declared.rows.Row.{Row}
-use Rattle.msrp_core.specs.CoreStates.{IsCoreState}
-use Rattle.msrp_why.specs.NumberedRows.{last_change, last_row, queue_rows}
-use Rattle.msrp_why.specs.declared.notes.Notes.{Notes}
-use Rattle.msrp_why.specs.declared.notes.ResourceNotes.{ResourceNotes}
-use Rattle.msrp_core.specs.declared.states.CoreState.{CoreState}
+use Rattle.std.specs.Prelude.{◌∷◌, ◌++◌, ◌+◌, ◌^◌, ◌-◌, ◌==◌, ◌&&◌, ◌≡◌, if◌then◌else◌, ◌||◌, ◌<◌}
+use Rattle.msrp_plan.specs.Common.{ℕ, List, [], Bool, true, false, not, nat_le, nat_lt, min, max, length, Option, Some, None, count_after, ceiling, head, running, done, is_waiting, same_job, level, PlanModel, key, units, is_on, list_any, range_with_len, is_job, same_kind, is_grant, is_queue, IsSomeAnd, slice_get, log_of}
 use Rattle.msrp_plan.specs.declared.ids.JobId.{JobId}
 use Rattle.msrp_plan.specs.declared.rows.Kind.{Kind}
 use Rattle.msrp_plan.specs.declared.rows.Kind.TheVariants.{Lock, Queue, Take}
+use Rattle.msrp_plan.specs.declared.rows.Row.{Row}
+use Rattle.msrp_why.specs.NumberedRows.{last_change, queue_rows, last_row}
 use Rattle.msrp_why.specs.declared.exercise.ResourceCounts.{ResourceCounts}
 use Rattle.msrp_why.specs.declared.exercise.TurnCounts.{TurnCounts}
 use Rattle.msrp_why.specs.declared.notes.Numbered.{Numbered}
+use Rattle.msrp_core.specs.CoreStates.{IsCoreState}
+use Rattle.msrp_why.specs.declared.notes.Notes.{Notes}
+use Rattle.msrp_why.specs.declared.notes.ResourceNotes.{ResourceNotes}
+use Rattle.msrp_core.specs.declared.states.CoreState.{CoreState}
 
 -- ---- the rows on a resource
 -- the row enters a resource that is free

@@ -2,10 +2,10 @@
 ghost use Rattle.std.specs.Prelude.{◌≡◌, ◌&&◌, ◌<◌, ◌++◌, ◌∷◌};
 ghost use Rattle.msrp_plan.specs.Common.{[], List, length, not, true, ForSome, IsRunStart, IsPlan, is_grant, release_tick, is_queue};
 ghost use Rattle.msrp_plan.specs.declared.rows.Row.{Row as TraceRow};
-ghost use Rattle.std.specs.Option.{IsSome};
-ghost use Rattle.msrp_core.specs.CoreStates.{IsCoreState};
 ghost use Rattle.msrp_why.specs.Noted.{AreTurnCounts, ends, is_at, is_entry, is_in_tick, is_kept, is_met, is_other, is_past, one_if, nests};
 ghost use Rattle.msrp_why.specs.Inside.{finishes_from, is_job_of, units_done};
+ghost use Rattle.std.specs.Option.{IsSome};
+ghost use Rattle.msrp_core.specs.CoreStates.{IsCoreState};
 
 use crate::notes::Numbered;
 use msrp_core::CoreState;

@@ -3,8 +3,8 @@
 ghost use Rattle.std.specs.Prelude.{◌≡◌, ◌<◌, ◌++◌, ◌∷◌};
 ghost use Rattle.msrp_plan.specs.Common.{[], List, IfOk, length, true, is_request, IsRunStart, PlanModel, IsPlan, list_any};
 ghost use Rattle.msrp_plan.specs.declared.rows.Row.{Row as TraceRow};
-ghost use Rattle.msrp_why.specs.Noted.{AreNoted, AreRowsNoted, IsStateAfter, is_by, is_locker, is_opening, is_user, nests};
 ghost use Rattle.msrp_why.specs.Inside.{AreEmptyOf, IsCountStep, last_with, queue_with};
+ghost use Rattle.msrp_why.specs.Noted.{AreNoted, AreRowsNoted, IsStateAfter, is_by, is_locker, is_opening, is_user, nests};
 
 use crate::exercise::{ResourceCounts, TurnCounts};
 use arrayvec::ArrayVec;

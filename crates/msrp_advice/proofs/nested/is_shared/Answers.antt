@@ -1,5 +1,5 @@
 use Rattle.std.proofs.Common.{◌∙◌}
-use Rattle.msrp_plan.proofs.Common.{sym, ap, codes, map, not_equal}
+use Rattle.msrp_plan.proofs.Common.{ap, codes, map, not_equal, sym}
 use Rattle.csv.specs.Records.{fields_of}
 use Rattle.msrp_text.specs.Reading.{record_at}
 use Rattle.msrp_advice.specs.Nested.{core_at}

@@ -8,4 +8,4 @@ pub returns-then-is_long : goal.returns-then-is_long
 returns-then-is_long c = long-words _ _ _ _ _ _ _ (sym c.is_long.ensures ∙ c.if-is_long.true) c.hand_words.ensures
 
 pub returns : goal.returns
-returns c = short-words _ _ c.advised-words.result _ _ _ _ _ (sym c.is_long.ensures ∙ c.if-is_long.false) c.advised-words.ensures (subst (λ words. HandsWords words c.args.text.now c.hand_words-2.new.text c.hand_words-2.new.needed c.hand_words-2.new.found c.hand_words-2.result) c.unfailed.ensures c.hand_words-2.ensures)
+returns c = short-words _ _ c.advised-words.result _ _ _ _ _ (sym c.is_long.ensures ∙ c.if-is_long.false) c.advised-words.ensures.plan c.advised-words.ensures.words (subst (λ words. HandsWords words c.args.text.now c.hand_words-2.new.text c.hand_words-2.new.needed c.hand_words-2.new.found c.hand_words-2.result) c.unfailed.ensures c.hand_words-2.ensures)

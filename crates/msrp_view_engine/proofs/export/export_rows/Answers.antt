@@ -8,38 +8,38 @@ use Rattle.msrp_engine.proofs.Judging.{IsFound}
 use Rattle.msrp_engine.proofs.RowsJudged.{HaveCome, broken-found, end-found, error-found, fewer-turns, row-came}
 use Rattle.msrp_view_engine.proofs.export.export_rows.Goals as goal
 
-pub loop-row-init : goal.loop-row-init
-loop-row-init g c =
+pub loop-exporter-init : goal.loop-exporter-init
+loop-exporter-init g c =
     let none : HaveCome g.T.Read.remaining c.args.rows.now c.args.rows.now [] = record { plan = refl; fed = c.requires.fed; fault = c.requires.fed.fault; read = λ told known. none-read told _ known } in
     ([], none, c.head.ensures.wrote)
 
 pub returns-in_err-row-clause-found : goal.returns-in_err-row-clause-found
 returns-in_err-row-clause-found g c = λ told known.
-    let i = c.loop-row.invariant in
+    let i = c.loop-exporter.invariant in
     let e = c.next_row.ensures in
-    let gives : c.from_residual.result ≡ Err (trace_fault_of c.in_err-row.field-0.0) = search rules in
-    let found = error-found g.T.Read.remaining _ _ _ i.0 c.next_row.result c.in_err-row.field-0.0 c.from_residual.result told i.1 (record { plan = e.plan; answers = e.gives; judged = e.judged i.0 i.1.fed i.1.fault }) (cc) known gives in
-    subst (λ (p : PlanModel). IsFound p told c.from_residual.result) c.requires.plan found
+    let gives : c.from_residual-in_err-row.result ≡ Err (trace_fault_of c.in_err-row.field-0.0) = search rules in
+    let found = error-found g.T.Read.remaining _ _ _ i.0 c.next_row.result c.in_err-row.field-0.0 c.from_residual-in_err-row.result told i.1 (record { plan = e.plan; answers = e.gives; judged = e.judged i.0 i.1.fed i.1.fault }) (cc) known gives in
+    subst (λ (p : PlanModel). IsFound p told c.from_residual-in_err-row.result) c.requires.plan found
 
 pub returns-in-Broken-clause-found : goal.returns-in-Broken-clause-found
 returns-in-Broken-clause-found g c = λ told known.
-    let i = c.loop-row.invariant in
+    let i = c.loop-exporter.invariant in
     let e = c.next_row.ensures in
     let found = broken-found g.T.Read.remaining _ _ _ i.0 c.next_row.result c.in-Broken.row c.in-Broken.fault told i.1 (record { plan = e.plan; answers = e.gives; judged = e.judged i.0 i.1.fed i.1.fault }) (c.in_ok-row.was ∙ ap (λ x. Ok x) c.in-Broken.is) known in
     inr (inr (sym (subst (λ (p : PlanModel). finding p told ≡ Ok (Err c.in-Broken.fault)) c.requires.plan found)))
 
 pub returns-in-Broken-clause-wrote : goal.returns-in-Broken-clause-wrote
-returns-in-Broken-clause-wrote g c = some-more g.W.Write.contents _ _ _ c.loop-row.invariant.2 c.fault.ensures
+returns-in-Broken-clause-wrote g c = some-more g.W.Write.contents _ _ _ c.loop-exporter.invariant.2 c.fault.ensures
 
-pub loop-row-smaller : goal.loop-row-smaller
-loop-row-smaller g c =
-    let i = c.loop-row.invariant in
+pub loop-exporter-smaller : goal.loop-exporter-smaller
+loop-exporter-smaller g c =
+    let i = c.loop-exporter.invariant in
     let e = c.next_row.ensures in
     fewer-turns g.T.Read.remaining _ _ _ i.0 c.next_row.result c.in-Legal.row i.1 (record { plan = e.plan; answers = e.gives; judged = e.judged i.0 i.1.fed i.1.fault }) (c.in_ok-row.was ∙ ap (λ x. Ok x) c.in-Legal.is)
 
-pub loop-row-preserved : goal.loop-row-preserved
-loop-row-preserved g c =
-    let i = c.loop-row.invariant in
+pub loop-exporter-preserved : goal.loop-exporter-preserved
+loop-exporter-preserved g c =
+    let i = c.loop-exporter.invariant in
     let e = c.next_row.ensures in
     let r = c.in-Legal.row in
     let more = row-came g.T.Read.remaining _ _ _ i.0 c.next_row.result r i.1 (record { plan = e.plan; answers = e.gives; judged = e.judged i.0 i.1.fed i.1.fault }) (c.in_ok-row.was ∙ ap (λ x. Ok x) c.in-Legal.is) in
@@ -47,13 +47,22 @@ loop-row-preserved g c =
 
 pub returns-in-End-clause-found : goal.returns-in-End-clause-found
 returns-in-End-clause-found g c = λ told known.
-    let i = c.loop-row.invariant in
+    let i = c.loop-exporter.invariant in
     let e = c.next_row.ensures in
     let whole = end-found g.T.Read.remaining _ _ _ i.0 c.next_row.result told i.1 (record { plan = e.plan; answers = e.gives; judged = e.judged i.0 i.1.fed i.1.fault }) (c.in_ok-row.was ∙ ap (λ x. Ok x) c.in-End.is) known in
     inr (inr (ap (λ x. Ok x) (rw c.auditor.ensures at c.end-found.ensures i.0 whole.0) ∙ sym (subst (λ (p : PlanModel). finding p told ≡ Ok (answer_of (verdict c.next_row.new.self.auditor.plan i.0))) c.requires.plan whole.2)))
 
 pub returns-in-End-clause-wrote : goal.returns-in-End-clause-wrote
-returns-in-End-clause-wrote g c = some-more g.W.Write.contents _ _ _ c.loop-row.invariant.2 c.write_end.ensures
+returns-in-End-clause-wrote g c = some-more g.W.Write.contents _ _ _ c.loop-exporter.invariant.2 c.write_end.ensures
 
 pub returns-in_err-row-clause-wrote : goal.returns-in_err-row-clause-wrote
-returns-in_err-row-clause-wrote g c = c.loop-row.invariant.2
+returns-in_err-row-clause-wrote g c = c.loop-exporter.invariant.2
+
+pub returns-in_err-row-in-Legal-clause-wrote : goal.returns-in_err-row-in-Legal-clause-wrote
+returns-in_err-row-in-Legal-clause-wrote g c = some-more g.W.Write.contents _ _ _ c.loop-exporter.invariant.2 c.row.ensures.wrote
+
+pub returns-in_err-fault-in-Broken-clause-wrote : goal.returns-in_err-fault-in-Broken-clause-wrote
+returns-in_err-fault-in-Broken-clause-wrote g c = some-more g.W.Write.contents _ _ _ c.loop-exporter.invariant.2 c.fault.ensures
+
+pub returns-in_err-write_end-in-End-clause-wrote : goal.returns-in_err-write_end-in-End-clause-wrote
+returns-in_err-write_end-in-End-clause-wrote g c = some-more g.W.Write.contents _ _ _ c.loop-exporter.invariant.2 c.write_end.ensures

@@ -7,6 +7,6 @@ use Rattle.msrp_view_engine.proofs.why.explain.Goals as goal
 pub returns-clause-explained : goal.returns-clause-explained
 returns-clause-explained g c = λ plan_bytes trace_bytes plan trace.
     let records = csv_records trace_bytes in
-    let words = words-or c.in_ok-plan.plan records c.explain_all-words.result (c.explain_all-words.ensures.explained trace_bytes trace) c.explain_all-words.ensures.faults in
+    let words = words-or c.in_ok-plan.plan records c.explain_all-words.result (c.explain_all-words.ensures.explained trace_bytes trace) c.explain_all-words.ensures.fault in
     settled_from_plan (λ read answer. IsExplainedOf read records answer) c.in_ok-plan.plan (plan_of (csv_records plan_bytes)) c.explain_all-words.result c.settled.result
     (c.in_ok-plan.ensures.answer plan_bytes plan) c.settled.ensures.same words

@@ -8,7 +8,7 @@ pub returns-in-Err-clause-explained : goal.returns-in-Err-clause-explained
 returns-in-Err-clause-explained g c = λ bytes known.
     let error = c.in-Err.unopened.error in
     let judged = unopened-judged g.T.Read.remaining c.args.plan.now (csv_records bytes) error (c.in-Err.ensures.opens bytes known) in
-    refused-explained c.args.plan.now (rows_of c.args.plan.now (csv_records bytes)) error c.words_on_refusal.result judged c.words_on_refusal.ensures.found c.words_on_refusal.ensures.refused c.words_on_refusal.ensures.fault
+    refused-explained c.args.plan.now (rows_of c.args.plan.now (csv_records bytes)) error c.words_on_refusal.result judged c.words_on_refusal.ensures.found c.words_on_refusal.ensures.words c.words_on_refusal.ensures.fault
 
 pub returns-clause-explained : goal.returns-clause-explained
 returns-clause-explained g c = λ bytes known.

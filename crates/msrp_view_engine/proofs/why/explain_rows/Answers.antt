@@ -11,4 +11,4 @@ returns-in-Ok-clause-explained g c = λ told known.
 pub returns-clause-explained : goal.returns-clause-explained
 returns-clause-explained g c = λ told known.
     let judged = subst (IsJudged c.args.plan.now told) c.in-Err.is (c.judge_rows.ensures.found told known) in
-    refused-explained c.args.plan.now told c.in-Err.error c.words_on_refusal.result judged c.words_on_refusal.ensures.found c.words_on_refusal.ensures.refused c.words_on_refusal.ensures.fault
+    refused-explained c.args.plan.now told c.in-Err.error c.words_on_refusal.result judged c.words_on_refusal.ensures.found c.words_on_refusal.ensures.words c.words_on_refusal.ensures.fault

@@ -1,8 +1,8 @@
 use Rattle.std.proofs.Common.{◌∙◌, ◌&&◌}
-use Rattle.msrp_plan.proofs.Common.{[], ap, IsLegal, each_at, sym, refl}
-use Rattle.msrp_why.proofs.Exercising.{few_before, job_below, job_known, finishes_by, head_known, one_more_counted}
+use Rattle.msrp_plan.proofs.Common.{[], ap, sym, refl, IsLegal, each_at}
 use Rattle.msrp_plan.specs.Choice.{head}
 use Rattle.msrp_why.specs.Noted.{is_at, is_kept, is_met, is_other, is_past}
+use Rattle.msrp_why.proofs.Exercising.{few_before, finishes_by, head_known, job_below, job_known, one_more_counted}
 use Rattle.msrp_why.proofs.exercise.TurnCounts.note.Goals as goal
 
 pub returns : goal.returns

@@ -1,7 +1,7 @@
 use Rattle.std.proofs.Common.{◌≡◌, ◌&&◌, ◌∙◌}
 use Rattle.msrp_plan.proofs.Common.{Bool, true, false, refl, ap, sym}
-use Rattle.msrp_why.proofs.Noting.{inside_noted}
 use Rattle.msrp_why.specs.Noted.{is_inside, is_opening}
+use Rattle.msrp_why.proofs.Noting.{inside_noted}
 use Rattle.msrp_why.proofs.notes.Notes.nests.Goals as goal
 
 none : (b : Bool) → false ≡ (b && false)

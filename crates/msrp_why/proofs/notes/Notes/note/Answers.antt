@@ -1,8 +1,8 @@
 use Rattle.std.proofs.Common.{◌++◌, ◌∷◌}
 use Rattle.msrp_plan.proofs.Common.{[], length, sym, subst, IsLegal, legal_due, each_at, IsSomeAnd, log_of}
 use Rattle.msrp_why.specs.Noted.{AreTurnCounts}
-use Rattle.msrp_core.specs.CoreStates.{IsCoreState}
 use Rattle.msrp_why.proofs.Exercising.{tick_is}
+use Rattle.msrp_core.specs.CoreStates.{IsCoreState}
 use Rattle.msrp_why.proofs.notes.Notes.note.Goals as goal
 
 pub returns-in-Some : goal.returns-in-Some

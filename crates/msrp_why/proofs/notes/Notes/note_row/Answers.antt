@@ -2,7 +2,7 @@ use Rattle.std.proofs.Common.{◌≡◌, ◌<◌, ◌∷◌, ◌∙◌, ◌++◌
 use Rattle.msrp_plan.proofs.Common.{[], ℕ, Some, true, length, length-append, refl, sym, subst, arith, slice_get, length-set, slice_get_read, is_request, ap, slice_get_within, is_on}
 use Rattle.msrp_why.specs.Noted.{IsNoted}
 use Rattle.msrp_why.specs.declared.notes.ResourceNotes.{ResourceNotes}
-use Rattle.msrp_why.proofs.Noting.{noted_off, last_row_push, one_more, noted_on, off_it, set_each}
+use Rattle.msrp_why.proofs.Noting.{set_each, noted_off, last_row_push, one_more, noted_on, off_it}
 use Rattle.msrp_why.specs.Inside.{last_with, queue_with}
 use Rattle.msrp_why.proofs.notes.Notes.note_row.Goals as goal
 

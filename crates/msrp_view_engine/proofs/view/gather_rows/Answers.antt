@@ -1,11 +1,11 @@
 use Rattle.std.proofs.Common.{◌≡◌, ◌++◌, ◌∷◌, ◌∙◌}
-use Rattle.msrp_plan.proofs.Common.{rules, [], List, Ok, Err, ap, subst, sym}
+use Rattle.msrp_plan.proofs.Common.{rules, [], List, Ok, Err, ap, subst, sym, inr}
 use Rattle.msrp_plan.specs.declared.rows.Row.{Row}
 use Rattle.msrp_trace.specs.Readers.{told_left}
 use Rattle.msrp_faults.specs.Outcomes.{trace_fault_of}
-use Rattle.msrp_trace.proofs.ReadThrough.{IsReadTo, none-read, read-row}
-use Rattle.msrp_view_engine.proofs.ReadThrough.{all-read, refused-read}
-use Rattle.msrp_view_engine.proofs.reading.gather_rows.Goals as goal
+use Rattle.msrp_trace.proofs.ReadThrough.{IsReadTo, none-read, read-refused, read-row}
+use Rattle.msrp_view_engine.proofs.ReadThrough.{all-read, error-read}
+use Rattle.msrp_view_engine.proofs.view.gather_rows.Goals as goal
 
 pub loop-row-init : goal.loop-row-init
 loop-row-init g c = λ told known. subst (λ (rows : List Row). IsReadTo told rows (told_left g.T.Read.remaining c.args.rows.now)) (sym c.requires) (none-read told _ known)
@@ -18,9 +18,10 @@ loop-row-preserved g c = λ told known.
 
 pub returns-in_err-row-clause-rows : goal.returns-in_err-row-clause-rows
 returns-in_err-row-clause-rows g c = λ told known.
-    let gives : c.from_residual.result ≡ Err (trace_fault_of c.in_err-row.field-0.0) = search rules in
-    refused-read told c.loop-row.gathered.items _ _ c.next_row.result c.in_err-row.field-0.0 c.from_residual.result (c.loop-row.invariant told known) c.next_row.ensures.next (cc) gives
+    let error = c.in_err-row.field-0.0 in
+    let gives : c.from_residual.result ≡ Err (trace_fault_of error) = search rules in
+    error-read told error c.from_residual.result _ (read-refused told c.loop-row.gathered.items _ _ c.next_row.result error (c.loop-row.invariant told known) c.next_row.ensures.next (cc)) (λ last. last.1) gives
 
 pub returns-in-None-clause-rows : goal.returns-in-None-clause-rows
 returns-in-None-clause-rows g c = λ told known.
-    all-read told (record { rows = c.loop-row.gathered }) _ _ c.next_row.result (c.loop-row.invariant told known) c.next_row.ensures.next (cc)
+    inr (inr (all-read told c.loop-row.gathered.items _ _ c.next_row.result (c.loop-row.invariant told known) c.next_row.ensures.next (cc)))

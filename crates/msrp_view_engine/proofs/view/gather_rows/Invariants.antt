@@ -3,7 +3,7 @@ use Rattle.msrp_plan.proofs.Common.{Some}
 use Rattle.msrp_trace.specs.Reading.{Told}
 use Rattle.msrp_trace.specs.Readers.{told_left}
 use Rattle.msrp_trace.proofs.ReadThrough.{IsReadTo}
-use Rattle.msrp_view_engine.proofs.reading.gather_rows.Given as goal
+use Rattle.msrp_view_engine.proofs.view.gather_rows.Given as goal
 
 abbrev pub invariant-loop-row : goal.invariant-loop-row
 invariant-loop-row g l = (told : Told) → told_left g.T.Read.remaining l.fn.rows ≡ Some told → IsReadTo told l.gathered.items (told_left g.T.Read.remaining l.rows)

@@ -1,2 +1,0 @@
--- Words of private functions. No public contract speaks of them.
-pub mod Readings
