@@ -2,16 +2,17 @@
 //!
 //! The text says which core's row is next. That core runs, which gives its one legal row, and the text of that row is compared with the text that is
 //! next. So a legal row is never read field by field. As long as a core's rows differ in their ticks alone, its text is made once.
-ghost use Rattle.std.specs.Prelude.{◌≡◌, ◌<◌, ◌*◌, ◌++◌, ◌∷◌};
-ghost use Rattle.msrp_plan.specs.Common.{ℕ, List, [], IfErr, IfOk, IfSome, Some, None, Ok, Err, true, false, source_failed, IsPlan, is_in_turn};
+ghost use Rattle.std.specs.Prelude.{◌≡◌, ◌<◌, ◌*◌, ◌++◌, ◌∷◌, ◌/◌, ◌%◌};
+ghost use Rattle.msrp_plan.specs.Common.{ℕ, List, [], IfErr, IfOk, IfSome, Some, None, Ok, Err, true, false, source_failed, IsPlan, is_in_turn, IsSomeAnd, length, in_tick};
 ghost use Rattle.msrp_audit.specs.Audits.{Awaits, HasFed, IsDueInAudit};
 ghost use Rattle.msrp_plan.specs.declared.rows.Row.{Row as TraceRow};
 ghost use Rattle.msrp_trace.specs.Reading.{Told};
 ghost use Rattle.msrp_trace.specs.Readers.{BeginsAt, GivesNext, source_of};
 ghost use Rattle.msrp_trace.specs.Texts.{text_of_core};
-ghost use Rattle.msrp_engine.specs.Inside.Kept.{IsKept, KeepsTexts};
+ghost use Rattle.msrp_engine.specs.Inside.Kept.{IsKept, KeepsRows, row_of_core};
 
 use msrp_audit::Auditor;
+use msrp_plan::limits::MOST_CORES;
 use msrp_plan::{CoreId, Fault, Plan, Row};
 use msrp_trace::{RowTexts, TraceError, TraceReader};
 use std::io::Read;
@@ -46,12 +47,32 @@ impl Judgement {
 pub struct JudgedRows<'p, 't, T> {
     auditor: Auditor<'p>,
     rows: TraceReader<'t, T>,
-    // Of each core the text of its last row that was chosen, but for the tick.
+    // Of each core its last row that was chosen, and the text of that, but for the tick.
+    lasts: [Option<Row>; MOST_CORES as usize],
     texts: RowTexts<'p>,
     ghost plan: { rows.plan.now ≡ auditor.plan },
     ghost texts_plan: { texts.plan ≡ auditor.plan },
     ghost version: { texts.version ≡ rows.version },
-    ghost kept: { KeepsTexts rows.version auditor.plan auditor.cores texts },
+    ghost kept: { KeepsRows rows.version auditor.plan auditor.cores texts lasts },
+}
+
+// Keeps the row of a core.
+#[inline(always)]
+fn keep_row(lasts: &mut [Option<Row>], core: CoreId, row: Row)
+    requires { length lasts.old ≡ 8 }
+    ensures here { row_of_core lasts.new core.0 ≡ Some row }
+    ensures others { (c : ℕ) → ¬ (c % 8 ≡ core.0 % 8) → row_of_core lasts.new c ≡ row_of_core lasts.old c }
+{
+    lasts[(core.0 % MOST_CORES) as usize] = Some(row);
+}
+
+// The row that is kept of a core.
+#[inline(always)]
+fn kept_row(lasts: &[Option<Row>], core: CoreId) -> Option<Row>
+    requires { length lasts.now ≡ 8 }
+    ensures { result ≡ row_of_core lasts.now core.0 }
+{
+    lasts[(core.0 % MOST_CORES) as usize]
 }
 
 impl<'p, 't, T: Read> JudgedRows<'p, 't, T> {
@@ -72,6 +93,7 @@ impl<'p, 't, T: Read> JudgedRows<'p, 't, T> {
         JudgedRows {
             auditor,
             rows,
+            lasts: [None; MOST_CORES as usize],
             texts,
         }
     }
@@ -83,38 +105,55 @@ impl<'p, 't, T: Read> JudgedRows<'p, 't, T> {
         &self.auditor
     }
 
-    // The core's next row, which is chosen anew. Its text is made.
-    #[inline(always)]
-    fn choose(&mut self, core: CoreId) -> Row
+    // The core's next row, which is chosen anew. It is kept, and its text is made.
+    #[inline(never)]
+    fn choose(&mut self, core: CoreId)
         requires accepted { IsPlan self.old.auditor.plan }
         requires due { IsDueInAudit self.old.auditor core.0 }
         ensures plan { self.new.auditor.plan ≡ self.old.auditor.plan }
         ensures fed { self.new.auditor.fed ≡ self.old.auditor.fed }
-        ensures awaits { (rows : List TraceRow) → HasFed self.old.auditor rows → Awaits self.new.auditor rows core.0 result }
-        ensures core { result.core.0 ≡ core.0 }
         ensures rows { self.new.rows ≡ self.old.rows }
-        ensures kept { IsKept self.new.rows.version self.new.auditor.plan (text_of_core self.new.texts core.0) result }
+        ensures core { IsSomeAnd (row_of_core self.new.lasts core.0) (λ last. last.core.0 ≡ core.0) }
+        ensures awaits { (rows : List TraceRow) → HasFed self.old.auditor rows → IfSome (row_of_core self.new.lasts core.0) (λ last. Awaits self.new.auditor rows core.0 (in_tick (length rows / self.new.auditor.plan.cores) last)) }
     {
         let expected = self.auditor.turn_anew(core);
+        keep_row(&mut self.lasts, core, expected);
         self.texts.show(&self.rows.as_read(expected));
-        expected
     }
 
     // The core's next row: its last one in the next tick, where that is known, or one that is chosen.
     #[inline(always)]
-    fn expect(&mut self, core: CoreId) -> Row
+    fn expect(&mut self, core: CoreId)
         requires accepted { IsPlan self.old.auditor.plan }
         requires due { IsDueInAudit self.old.auditor core.0 }
         ensures plan { self.new.auditor.plan ≡ self.old.auditor.plan }
         ensures fed { self.new.auditor.fed ≡ self.old.auditor.fed }
-        ensures awaits { (rows : List TraceRow) → HasFed self.old.auditor rows → Awaits self.new.auditor rows core.0 result }
-        ensures core { result.core.0 ≡ core.0 }
         ensures rows { self.new.rows ≡ self.old.rows }
-        ensures kept { ¬ (text_of_core self.new.texts core.0 ≡ []) → IsKept self.new.rows.version self.new.auditor.plan (text_of_core self.new.texts core.0) result }
+        ensures core { IsSomeAnd (row_of_core self.new.lasts core.0) (λ last. last.core.0 ≡ core.0) }
+        ensures awaits { (rows : List TraceRow) → HasFed self.old.auditor rows → IfSome (row_of_core self.new.lasts core.0) (λ last. Awaits self.new.auditor rows core.0 (in_tick (length rows / self.new.auditor.plan.cores) last)) }
     {
+        if kept_row(&self.lasts, core).is_none() {
+            return self.choose(core);
+        }
         match self.auditor.repeat(core) {
-            Some(expected) => expected,
+            Some(_expected) => {}
             None => self.choose(core),
+        }
+    }
+
+    // The row in that tick that is expected of a core.
+    #[inline(always)]
+    fn expected(&self, tick: u32, core: CoreId) -> Row
+        requires core { core.0 < self.now.auditor.plan.cores }
+        requires kept { IsSomeAnd (row_of_core self.now.lasts core.0) (λ last. last.core.0 ≡ core.0) }
+        ensures row { IfSome (row_of_core self.now.lasts core.0) (λ last. result ≡ in_tick tick last) }
+        ensures core { result.core.0 ≡ core.0 }
+        ensures tick { result.tick ≡ tick }
+        ensures kept { IsKept self.now.rows.version self.now.auditor.plan (text_of_core self.now.texts core.0) result }
+    {
+        match kept_row(&self.lasts, core) {
+            Some(last) => last.in_tick(tick),
+            None => unreachable!(),
         }
     }
 
@@ -132,19 +171,21 @@ impl<'p, 't, T: Read> JudgedRows<'p, 't, T> {
         }
     }
 
-    // The next row, read field by field, whose text begins with the tick and the core of the expected one.
+    // The next row, read field by field. Its text begins with that tick and that core, of which a
+    // row is expected.
     #[inline(never)]
-    fn read_expected(&mut self, expected: Row) -> Result<Judgement, TraceError>
+    fn read_expected(&mut self, tick: u32, core: CoreId) -> Result<Judgement, TraceError>
+        requires core { core.0 < self.old.auditor.plan.cores }
+        requires kept { IsSomeAnd (row_of_core self.old.lasts core.0) (λ last. last.core.0 ≡ core.0) }
         requires left { self.old.auditor.fed < self.old.auditor.plan.cores * self.old.auditor.plan.ticks }
         ensures plan { self.new.auditor.plan ≡ self.old.auditor.plan }
         ensures gives { (told : Told) → rows_left T.remaining self.old ≡ Some told → GivesNext told (row_told result) (rows_left T.remaining self.new) }
-        ensures judged { (rows : List TraceRow) → Awaits self.old.auditor rows expected.core.0 expected → IsJudged self.old.auditor.plan rows result self.new }
-        ensures read { (told : Told) → rows_left T.remaining self.old ≡ Some told → BeginsAt expected.tick expected.core told → result ≡ Err TraceError.Read → source_failed (source_of self.new.rows) ≡ true }
+        ensures judged { (rows : List TraceRow) → IfSome (row_of_core self.old.lasts core.0) (λ last. Awaits self.old.auditor rows core.0 (in_tick tick last)) → IsJudged self.old.auditor.plan rows result self.new }
+        ensures read { (told : Told) → rows_left T.remaining self.old ≡ Some told → BeginsAt tick core told → result ≡ Err TraceError.Read → source_failed (source_of self.new.rows) ≡ true }
     {
+        let expected = self.expected(tick, core);
         match self.rows.next_row()? {
-            Some(row) if row.tick == expected.tick && row.core == expected.core => {
-                Ok(self.judge(expected, row))
-            }
+            Some(row) if row.tick == tick && row.core == core => Ok(self.judge(expected, row)),
             // No reader gives another row than the bytes that it has read ahead.
             _ => Err(TraceError::Read),
         }
@@ -165,7 +206,8 @@ impl<'p, 't, T: Read> JudgedRows<'p, 't, T> {
         if !self.auditor.is_in_turn(row) {
             return Ok(Judgement::Broken(row, self.auditor.fault_out_of_turn()));
         }
-        let expected = self.expect(row.core);
+        self.expect(row.core);
+        let expected = self.expected(row.tick, row.core);
         Ok(self.judge(expected, row))
     }
 
@@ -178,17 +220,23 @@ impl<'p, 't, T: Read> JudgedRows<'p, 't, T> {
         ensures read { (told : Told) (rows : List TraceRow) → rows_left T.remaining self.old ≡ Some told → HasFed self.old.auditor rows → self.old.auditor.fault ≡ None → result ≡ Err TraceError.Read → source_failed (source_of self.new.rows) ≡ true }
     {
         let tick = self.auditor.tick();
+        // What is read by fields has a place of its own: so a row that is met is laid down nowhere.
+        let judged;
         let Some(core) = self.rows.core_ahead(tick) else {
-            return self.read();
+            judged = self.read();
+            return judged;
         };
         if !self.auditor.is_due(core) {
-            return self.read();
+            judged = self.read();
+            return judged;
         }
-        let expected = self.expect(core);
+        self.expect(core);
         if !self.rows.comes_behind(tick, &self.texts, core) {
-            return self.read_expected(expected);
+            judged = self.read_expected(tick, core);
+            return judged;
         }
         self.auditor.accept();
+        let expected = self.expected(tick, core);
         Ok(Judgement::Legal(self.rows.as_read(expected).in_tick(tick)))
     }
 }

@@ -1,6 +1,6 @@
--- The texts of the cores' rows, as rows are judged.
-use Rattle.std.specs.Prelude.{◌≡◌, ◌<◌}
-use Rattle.msrp_plan.specs.Common.{ℕ, List, [], true, Some, PlanModel, in_tick}
+-- The rows that are kept of the cores, and their texts, as rows are judged.
+use Rattle.std.specs.Prelude.{◌≡◌, ◌<◌, ◌%◌}
+use Rattle.msrp_plan.specs.Common.{ℕ, List, true, Some, PlanModel, in_tick, Option, None, slice_index_or}
 use Rattle.msrp_plan.specs.declared.rows.Row.{Row}
 use Rattle.msrp_plan.specs.declared.rows.TextVersion.{TextVersion}
 use Rattle.msrp_sim.specs.Cores.{CoresModel, known_row}
@@ -13,6 +13,15 @@ pub record IsKept (version : TextVersion) (plan : PlanModel) (text : List ℕ) (
   pub is : text ≡ after_tick version plan (as_read version r)
   pub whole : (t : ℕ) → is_short t ≡ true → is_told_whole version plan (in_tick t (as_read version r)) ≡ true
 
--- where a core has a text and its next row is known, the text is that row's
-abbrev pub KeepsTexts : TextVersion → PlanModel → CoresModel → TextsModel → Type 0
-KeepsTexts version plan cores texts = (c : ℕ) → c < plan.cores → ¬ (text_of_core texts c ≡ []) → (r : Row) → known_row cores c ≡ Some r → IsKept version plan (text_of_core texts c) r
+-- the row that is kept of a core
+abbrev pub row_of_core : List (Option Row) → ℕ → Option Row
+row_of_core lasts core = slice_index_or lasts (core % 8) None
+
+-- the text is that of the row, and where the core's next row is known, it is that one again, in another tick
+pub record KeepsRow (version : TextVersion) (plan : PlanModel) (cores : CoresModel) (core : ℕ) (text : List ℕ) (last : Row) : Type 0 where
+  pub kept : IsKept version plan text last
+  pub known : (r : Row) → known_row cores core ≡ Some r → r ≡ in_tick r.tick last
+
+-- so it is of each core of which a row is kept
+abbrev pub KeepsRows : TextVersion → PlanModel → CoresModel → TextsModel → List (Option Row) → Type 0
+KeepsRows version plan cores texts lasts = (c : ℕ) → c < plan.cores → (last : Row) → row_of_core lasts c ≡ Some last → KeepsRow version plan cores c (text_of_core texts c) last

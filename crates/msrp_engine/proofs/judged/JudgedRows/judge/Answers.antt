@@ -7,7 +7,7 @@ use Rattle.msrp_engine.proofs.judged.JudgedRows.judge.Goals as goal
 pub invariant_of-self-clause-kept : goal.invariant_of-self-clause-kept
 invariant_of-self-clause-kept g c =
     let j = c.args.self.now in
-    keeps_same j.rows.version j.auditor.plan c.judge.new.self.plan j.auditor.cores c.judge.new.self.cores j.texts c.judge.ensures.plan c.judge.ensures.cores j.kept
+    keeps_same j.rows.version j.auditor.plan c.judge.new.self.plan j.auditor.cores c.judge.new.self.cores j.texts j.lasts c.judge.ensures.plan c.judge.ensures.cores j.kept
 
 pub returns-in-Ok-clause-judged : goal.returns-in-Ok-clause-judged
 returns-in-Ok-clause-judged g c = λ rows awaits tick.

@@ -1,45 +1,52 @@
 use Rattle.std.proofs.Common.{◌≡◌, ◌++◌, ◌∷◌, ◌/◌, ◌∙◌}
-use Rattle.msrp_plan.proofs.Common.{[], Some, IfSome, false, length, PlanModel, in_tick, ap, sym, subst}
-use Rattle.msrp_audit.specs.Audits.{AuditorModel, HasFed}
-use Rattle.msrp_plan.specs.declared.ids.CoreId.{CoreId}
+use Rattle.msrp_plan.proofs.Common.{[], Some, IfSome, length, PlanModel, in_tick, ap, sym, subst}
+use Rattle.msrp_audit.specs.Audits.{AuditorModel, HasFed, Awaits}
 use Rattle.msrp_plan.specs.declared.rows.Row.{Row}
 use Rattle.msrp_trace.specs.Laws.{as_read}
 use Rattle.msrp_trace.specs.Readers.{BeginsAt, told_left}
-use Rattle.msrp_engine.specs.Inside.Kept.{KeepsTexts}
-use Rattle.msrp_engine.proofs.KeptTexts.{keeps_same, read_as}
+use Rattle.msrp_engine.specs.Inside.Kept.{KeepsRows, row_of_core}
+use Rattle.msrp_engine.proofs.KeptTexts.{keeps_same, read_as, awaits_in, expected_awaits}
+use Rattle.msrp_engine.specs.Judging.{IsJudged}
 use Rattle.msrp_engine.proofs.judged.JudgedRows.next_row.Goals as goal
 
 pub invariant_of-self-clause-kept : goal.invariant_of-self-clause-kept
-invariant_of-self-clause-kept g c = let j = c.args.self.now in subst (λ v. KeepsTexts v j.auditor.plan j.auditor.cores j.texts) (sym c.core_ahead.ensures.trace.0) j.kept
+invariant_of-self-clause-kept g c = let j = c.args.self.now in subst (λ v. KeepsRows v j.auditor.plan j.auditor.cores j.texts j.lasts) (sym c.core_ahead.ensures.trace.0) j.kept
+
+pub invariant_of-self-then-not-comes_behind-clause-kept : goal.invariant_of-self-then-not-comes_behind-clause-kept
+invariant_of-self-then-not-comes_behind-clause-kept g c = let j = c.expect.new.self in subst (λ v. KeepsRows v j.auditor.plan j.auditor.cores j.texts j.lasts) (sym c.comes_behind.ensures.trace.0) j.kept
 
 pub invariant_of-self-2-clause-kept : goal.invariant_of-self-2-clause-kept
 invariant_of-self-2-clause-kept g c =
-    let j = c.expect-expected.new.self in
+    let j = c.expect.new.self in
     let same = c.accept.ensures.same in
-    subst (λ v. KeepsTexts v c.accept.new.self.plan c.accept.new.self.cores j.texts) (sym c.comes_behind.ensures.trace.0)
-    (keeps_same j.rows.version j.auditor.plan c.accept.new.self.plan j.auditor.cores c.accept.new.self.cores j.texts (ap (λ (a : AuditorModel). a.plan) same) (ap (λ (a : AuditorModel). a.cores) same) j.kept)
+    subst (λ v. KeepsRows v c.accept.new.self.plan c.accept.new.self.cores j.texts j.lasts) (sym c.comes_behind.ensures.trace.0)
+    (keeps_same j.rows.version j.auditor.plan c.accept.new.self.plan j.auditor.cores c.accept.new.self.cores j.texts j.lasts (ap (λ (a : AuditorModel). a.plan) same) (ap (λ (a : AuditorModel). a.cores) same) j.kept)
+
+pub returns-then-not-comes_behind-clause-judged : goal.returns-then-not-comes_behind-clause-judged
+returns-then-not-comes_behind-clause-judged g c = λ rows fed none.
+    let j = c.expect.new.self in
+    let x = c.expect.ensures in
+    let tick : c.tick-tick.result ≡ length rows / j.auditor.plan.cores = c.tick-tick.ensures.tick rows fed none ∙ ap (λ (p : PlanModel). length rows / p.cores) (sym x.plan) in
+    subst (λ p. IsJudged p rows c.read_expected-judged.result c.read_expected-judged.new.self) x.plan (c.read_expected-judged.ensures.judged rows (awaits_in j.auditor rows c.in-Some.core.0 c.tick-tick.result (row_of_core j.lasts c.in-Some.core.0) tick (x.awaits rows fed)))
 
 pub returns-then-not-comes_behind-clause-read : goal.returns-then-not-comes_behind-clause-read
 returns-then-not-comes_behind-clause-read g c = λ told rows known fed none e.
-    let x = c.expect-expected.ensures in
-    let due = c.expect-expected.result in
-    let awaits = x.awaits rows fed in
-    let not : c.comes_behind.result ≡ false = cc in
     let begins = subst (λ o. IfSome o (λ core. BeginsAt c.tick-tick.result core told)) c.in-Some.is (c.core_ahead.ensures.next told known) in
-    let tick : c.tick-tick.result ≡ due.tick = c.tick-tick.ensures.tick rows fed none ∙ (ap (λ (p : PlanModel). length rows / p.cores) (sym x.plan) ∙ sym awaits.tick) in
-    let core : c.in-Some.core ≡ due.core = ap (λ n. record { 0 = n }) (sym x.core) in
-    let at = subst (λ n. BeginsAt n due.core told) tick (subst (λ (k : CoreId). BeginsAt c.tick-tick.result k told) core begins) in
-    let left = subst (λ r. told_left g.T.Read.remaining r ≡ Some told) (sym x.rows) (c.core_ahead.ensures.kept told known) in
-    c.read_expected.ensures.read told (c.comes_behind.ensures.kept not told left) at e
+    let left = subst (λ r. told_left g.T.Read.remaining r ≡ Some told) (sym c.expect.ensures.rows) (c.core_ahead.ensures.kept told known) in
+    c.read_expected-judged.ensures.read told (c.comes_behind.ensures.kept (cc) told left) begins e
 
 pub returns-clause-judged : goal.returns-clause-judged
 returns-clause-judged g c = λ rows fed none.
-    let x = c.expect-expected.ensures in
-    let due = c.expect-expected.result in
+    let j = c.expect.new.self in
+    let x = c.expect.ensures in
+    let k = c.in-Some.core.0 in
+    let t = c.tick-tick.result in
+    let due = c.expected-expected.result in
+    let e = c.expected-expected.ensures in
     let version = c.comes_behind.new.self.version in
-    let awaits = x.awaits rows fed in
-    let tick : c.tick-tick.result ≡ due.tick = c.tick-tick.ensures.tick rows fed none ∙ (ap (λ (p : PlanModel). length rows / p.cores) (sym x.plan) ∙ sym awaits.tick) in
-    let made : c.in_tick.result ≡ in_tick c.tick-tick.result (as_read version due) = c.in_tick.ensures ∙ ap (in_tick c.tick-tick.result) c.as_read.ensures in (
-      subst (λ (r : Row). HasFed c.accept.new.self (rows ++ r ∷ [])) (sym made) (c.accept.ensures.fed rows _ due (in_tick c.tick-tick.result (as_read version due)) awaits tick (read_as version c.tick-tick.result due)),
+    let tick : t ≡ length rows / j.auditor.plan.cores = c.tick-tick.ensures.tick rows fed none ∙ ap (λ (p : PlanModel). length rows / p.cores) (sym x.plan) in
+    let awaits : Awaits j.auditor rows k due = expected_awaits j.auditor rows k t due (row_of_core j.lasts k) x.core e.row (awaits_in j.auditor rows k t (row_of_core j.lasts k) tick (x.awaits rows fed)) in
+    let made : c.in_tick.result ≡ in_tick t (as_read version due) = c.in_tick.ensures ∙ ap (in_tick t) c.as_read.ensures in (
+      subst (λ (r : Row). HasFed c.accept.new.self (rows ++ r ∷ [])) (sym made) (c.accept.ensures.fed rows k due (in_tick t (as_read version due)) awaits (sym e.tick) (read_as version t due)),
       ap (λ (a : AuditorModel). a.fault) c.accept.ensures.same ∙ awaits.fault,
     )
