@@ -24,9 +24,8 @@ use Rattle.msrp_plan.specs.Logs.{rows_on}
 use Rattle.msrp_plan.specs.declared.units.Op.TheVariants.{Lock as LockUnit, Unlock as UnlockUnit}
 use Rattle.msrp_levels.specs.Users.{ceiling_at}
 use Rattle.msrp_picture.specs.Types.{JobId, Kind, PlanModel, ResId, Row}
-use Rattle.msrp_picture.specs.Ceilings.{claims, is_claimed, claims_ceiling}
+use Rattle.msrp_picture.specs.Lanes.{claims, is_claimed, claims_ceiling, gives_back}
 use Rattle.msrp_picture.specs.Laws.{ShowsTheCeiling}
-use Rattle.msrp_picture.specs.Sections.{gives_back}
 use Rattle.msrp_picture.proofs.Growing.{some-more}
 use Rattle.msrp_picture.proofs.Marking.{one-set, others-same}
 

@@ -3,7 +3,7 @@ use Rattle.std.proofs.Common.{◌≡◌, ◌+◌, ◌∷◌, ◌++◌, ◌∙◌
 use Rattle.msrp_plan.proofs.Common.{ℕ, Bool, true, false, cond, List, [], refl, ap, sym, append_assoc, append-nil, arith, map, flat_map-append, filter-append, filter, flat_map, range_with_len, flat_more, range_more, map-append}
 
 -- by one part, and then by another
-grows : {X : Type 0} (a b c x y : List X) → b ≡ a ++ x → c ≡ b ++ y → c ≡ a ++ (x ++ y)
+pub grows : {X : Type 0} (a b c x y : List X) → b ≡ a ++ x → c ≡ b ++ y → c ≡ a ++ (x ++ y)
 grows a b c x y e f = f ∙ (ap (λ t. t ++ y) e ∙ append_assoc a x y)
 
 -- by the part of one number more

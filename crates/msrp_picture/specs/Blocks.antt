@@ -11,20 +11,15 @@ abbrev pub lasting : Lane → ℕ → ℕ → Look → Option JobId → Option R
 lasting lane a b look job res = record { lane = lane; first = a; end = b; look = look; is_legal = true; job = job; res = res }
 
 -- ---- the tick of a row
--- in the lane of a core which job runs, in that of a task what its job does
-abbrev pub look_of : Lane → Row → Option Look
-look_of (Core c) r = if is_of c.0 r && is_some r.job then Some Runs else None
-look_of (Task t) r = if is_job_of t.0 r.job then Some (Does r.kind) else None
+-- in the lane of a core which job runs, in that of a task what its job does, and on which resource
+abbrev pub look_of : Lane → Row → Option (Look × Option ResId)
+look_of (Core c) r = if is_of c.0 r && is_some r.job then Some (Runs, None) else None
+look_of (Task t) r = if is_job_of t.0 r.job then Some (Does r.kind, r.res) else None
 look_of _ r = None
-
--- on which resource
-abbrev pub res_of : Lane → Row → Option ResId
-res_of (Task t) r = r.res
-res_of _ r = None
 
 -- the tick of a row, if the lane shows it
 abbrev pub tick_of : Lane → Bool → Row → Option Block
-tick_of lane is_legal r = option_map (λ look. record (lasting lane r.tick (r.tick + 1) look r.job (res_of lane r)) { is_legal = is_legal }) (look_of lane r)
+tick_of lane is_legal r = option_map (λ shown. record (lasting lane r.tick (r.tick + 1) shown.0 r.job shown.1) { is_legal = is_legal }) (look_of lane r)
 
 -- ---- stretches
 abbrev pub same_look : Look → Look → Bool

@@ -3,7 +3,7 @@ use Rattle.msrp_plan.specs.Common.{ℕ, List, Bool, map, flat_map, range_with_le
 use Rattle.std.specs.Prelude.{◌≡◌, ◌+◌, ◌-◌, filter_map}
 use Rattle.msrp_picture.specs.Types.{Lane, PlanModel, Row, Block}
 use Rattle.msrp_picture.specs.Blocks.{merged, tick_of}
-use Rattle.msrp_picture.specs.Ceilings.{claims_ceiling}
+use Rattle.msrp_picture.specs.Lanes.{claims_ceiling}
 
 -- a block, taken apart into its ticks
 abbrev pub ticks_of : Block → List Block

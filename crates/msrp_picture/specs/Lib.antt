@@ -2,9 +2,7 @@ pub mod Types
 pub mod Windows
 pub mod Rows
 pub mod Blocks
-pub mod Sections
 pub mod Lives
-pub mod Queues
-pub mod Ceilings
+pub mod Lanes
 pub mod Shapes
 pub mod Laws

@@ -4,11 +4,9 @@ use Rattle.std.specs.Prelude.{◌≡◌, ◌∷◌, ◌++◌, filter, filter_map
 use Rattle.msrp_plan.specs.Common.{List, [], Option, Some, None, Ok, Err, length, map, ⊤, flat_map, range_with_len, resources, is_global, log_of}
 use Rattle.msrp_picture.specs.Types.{Block, CoreId, Event, Fault, Life, PlanModel, Result, Row, Shapes, TaskId, Violation, Window}
 use Rattle.msrp_picture.specs.Blocks.{row_blocks}
-use Rattle.msrp_picture.specs.Ceilings.{ceiling_blocks}
+use Rattle.msrp_picture.specs.Lanes.{ceiling_blocks, queue_blocks, sections}
 use Rattle.msrp_picture.specs.Lives.{completion_event, deadline_event, late_block, life_block, lives, release_event}
-use Rattle.msrp_picture.specs.Queues.{queue_blocks}
 use Rattle.msrp_picture.specs.Rows.{later_rows, legal_rows, task_rows, ticks_begun}
-use Rattle.msrp_picture.specs.Sections.{sections}
 use Rattle.msrp_picture.specs.Windows.{is_at, is_seen}
 use Rattle.msrp_picture.specs.declared.shapes.Lane.TheVariants.{Core, Task}
 

@@ -1,7 +1,7 @@
 -- Which ticks are drawn.
-use Rattle.std.specs.Prelude.{◌&&◌, if◌then◌else◌, ◌<◌, ◌+◌, ◌-◌, ◌/◌}
-use Rattle.msrp_plan.specs.Common.{ℕ, Bool, nat_lt, nat_le, Option, Some, None, Ok, Err, is_none, min, unwrap_or, ⊤, max}
-use Rattle.msrp_picture.specs.Types.{Asked, Fault, PlanModel, Result, Window, Block, Event}
+use Rattle.std.specs.Prelude.{◌&&◌, if◌then◌else◌, ◌<◌, ◌+◌}
+use Rattle.msrp_plan.specs.Common.{ℕ, Bool, nat_lt, nat_le, Option, Some, None, min, unwrap_or, max}
+use Rattle.msrp_picture.specs.Types.{Asked, PlanModel, Window, Block, Event}
 use Rattle.msrp_picture.specs.declared.windows.TheConstants.{SHORT_RUN}
 
 -- the first tick, and the one up to which is drawn, where these are asked for
@@ -22,23 +22,6 @@ window_of plan asked = if is_window plan (first_asked asked) (end_asked plan ask
 -- a window has a tick
 abbrev pub IsWindow : Window → Type 0
 IsWindow w = w.from < w.to
-
--- the tick in which the row of this number is expected: rows count from 1, and each tick has one for each core
-abbrev pub expected_tick : PlanModel → ℕ → ℕ
-expected_tick plan row = (row - 1) / plan.cores
-
--- the first of at most SHORT_RUN ticks with this one in their middle, as far as the plan has them
-abbrev first_around : PlanModel → ℕ → ℕ
-first_around plan t = min (t - SHORT_RUN / 2) (plan.ticks - SHORT_RUN)
-
--- these ticks
-abbrev pub around : PlanModel → ℕ → Window
-around plan t = record { from = first_around plan t; to = min plan.ticks (first_around plan t + SHORT_RUN) }
-
--- the window, but where no ticks are asked for and a rule is violated the ticks around the fault
-abbrev pub shown_window : PlanModel → Asked → Window → Result ⊤ Fault → Window
-shown_window plan asked w (Ok good) = w
-shown_window plan asked w (Err fault) = if is_none asked.from && is_none asked.to then around plan (expected_tick plan fault.row) else w
 
 -- some ticks of the block are drawn
 abbrev pub is_seen : Window → Block → Bool

@@ -1,7 +1,7 @@
 //! Blocks of rows: stretches of ticks in which one job runs on a core, or does the same.
 ghost use Rattle.msrp_plan.specs.Common.{OnOk, IfOk, List};
 ghost use Rattle.std.specs.Prelude.{◌≡◌, ◌∷◌, ◌++◌, filter_map};
-ghost use Rattle.msrp_picture.specs.Blocks.{goes_on, joined, look_of, merged, res_of, same_look, row_blocks, tick_of};
+ghost use Rattle.msrp_picture.specs.Blocks.{goes_on, joined, look_of, merged, same_look, row_blocks, tick_of};
 ghost use Rattle.msrp_picture.specs.declared.shapes.Block.{Block as Shown};
 
 use crate::Added;
@@ -68,22 +68,13 @@ pub(crate) fn push_merged(blocks: &mut Vec<Block>, ticks: &[Block]) -> Added
     }
 }
 
-// What a lane shows of a row, if anything.
-fn look_of(lane: Lane, row: &Row) -> Option<Look>
+// What a lane shows of a row, if anything, and on which resource.
+fn look_of(lane: Lane, row: &Row) -> Option<(Look, Option<ResId>)>
     ensures { result ≡ look_of lane row.now }
 {
     match lane {
-        Lane::Core(core) if row.core == core && row.job.is_some() => Some(Look::Runs),
-        Lane::Task(task) if is_job_of(task, row.job) => Some(Look::Does(row.kind)),
-        _ => None,
-    }
-}
-
-fn res_of(lane: Lane, row: &Row) -> Option<ResId>
-    ensures { result ≡ res_of lane row.now }
-{
-    match lane {
-        Lane::Task(_) => row.res,
+        Lane::Core(core) if row.core == core && row.job.is_some() => Some((Look::Runs, None)),
+        Lane::Task(task) if is_job_of(task, row.job) => Some((Look::Does(row.kind), row.res)),
         _ => None,
     }
 }
@@ -92,11 +83,11 @@ fn res_of(lane: Lane, row: &Row) -> Option<ResId>
 fn tick_of(lane: Lane, is_legal: bool, row: &Row) -> Option<Block>
     ensures { result ≡ tick_of lane is_legal row.now }
 {
-    let look = look_of(lane, row)?;
+    let (look, res) = look_of(lane, row)?;
     let tick = row.tick as u64;
     Some(Block {
         is_legal,
-        ..lasting(lane, tick, tick + 1, look, row.job, res_of(lane, row))
+        ..lasting(lane, tick, tick + 1, look, row.job, res)
     })
 }
 

@@ -2,7 +2,7 @@
 ghost use Rattle.std.specs.Prelude.{◌≡◌, ◌<◌, ◌-◌, ◌^◌, ◌∷◌, ◌++◌};
 ghost use Rattle.msrp_plan.specs.Common.{[], List, length, IfOk, OnOk, log_of, PlanModel};
 ghost use Rattle.msrp_plan.specs.declared.rows.Row.{Row as TraceRow};
-ghost use Rattle.msrp_picture.specs.Ceilings.{claims, raised, ceiling_blocks, ceiling_ticks, claims_ceiling};
+ghost use Rattle.msrp_picture.specs.Lanes.{claims, raised, ceiling_blocks, ceiling_ticks, claims_ceiling};
 
 use crate::Added;
 use crate::blocks::push_merged;

@@ -1,8 +1,8 @@
 //! What there is to see in a picture, and the picture.
-ghost use Rattle.std.specs.Prelude.{◌≡◌, ◌<◌, ◌++◌, filter};
+ghost use Rattle.std.specs.Prelude.{◌≡◌, ◌++◌, filter};
 ghost use Rattle.msrp_plan.specs.Common.{IfOk, OnOk, length, map, flat_map, range_with_len};
 ghost use Rattle.msrp_picture.specs.Lives.{late_block, life_block};
-ghost use Rattle.msrp_picture.specs.Shapes.{AreShapes, AreShapesOf, blocks, core_blocks, cores_blocks, events, lives_blocks, queues_blocks, task_blocks, tasks_blocks, violation};
+ghost use Rattle.msrp_picture.specs.Shapes.{AreShapes, AreShapesOf, blocks, cores_blocks, events, lives_blocks, queues_blocks, task_blocks, tasks_blocks, violation};
 ghost use Rattle.msrp_picture.specs.Windows.{IsWindow, is_seen};
 ghost use Rattle.msrp_picture.specs.declared.lives.Life.{Life as JobLife};
 
@@ -32,20 +32,13 @@ fn lives_blocks(scene: &Scene<'_>, lives: &[Life]) -> Result<Vec<Block>, Memory>
     gathered(lives.iter().map(life_block).chain(late), scene.alloc)
 }
 
-// Who runs on a core, and its ceilings as long as the rows are legal.
-fn push_core(blocks: &mut Vec<Block>, scene: &Scene<'_>, core: CoreId) -> Added
-    requires { core.0 < scene.now.plan.now.cores }
-    ensures { OnOk result (blocks.new.items ≡ blocks.old.items ++ core_blocks scene.now.plan.now scene.now.rows.now scene.now.later.now core) }
-{
-    push_rows(blocks, scene, Lane::Core(core))?;
-    push_ceilings(blocks, scene, core)
-}
-
+// Who runs on each core, and its ceilings as long as the rows are legal.
 fn push_cores(blocks: &mut Vec<Block>, scene: &Scene<'_>) -> Added
     ensures { OnOk result (blocks.new.items ≡ blocks.old.items ++ cores_blocks scene.now.plan.now scene.now.rows.now scene.now.later.now) }
 {
     for core in 0..scene.plan.cores() {
-        push_core(blocks, scene, CoreId(core))?;
+        push_rows(blocks, scene, Lane::Core(CoreId(core)))?;
+        push_ceilings(blocks, scene, CoreId(core))?;
     }
     Ok(())
 }

@@ -2,10 +2,12 @@
 
 use crate::Added;
 use crate::scene::Scene;
-use crate::shapes::{Block, Event, Lane, Look, Moment, Shapes, Violation};
+use crate::shapes::{Block, Lane, Look, Moment, Shapes, Violation};
 use crate::windows::Window;
-use crate::words::{drawn_ticks, res_name, verdict};
-use msrp_plan::{CoreId, JobId, Kind, Memory, Plan, ResId, TaskId};
+use crate::words::{res_name, say_ticks, say_verdict};
+use msrp_plan::{CoreId, Kind, Memory, Plan, ResId, Row, TaskId};
+use std::alloc::Global;
+use std::fmt::Display;
 
 // So many ticks are on a line: with its label that is less than 80 columns.
 const LINE_TICKS: u32 = 60;
@@ -21,11 +23,28 @@ const LEGEND: &str =
     . idle  | next job  ! violates a rule  ^ release  v absolute deadline  X both\n\
     of a resource: the first in its queue after the tick, how many wait behind it\n";
 
-// A line of a picture, with a cell for each tick of the window.
+// What a line shows.
+#[derive(Clone, Copy)]
+enum Shown {
+    Jobs(CoreId),
+    Deeds(CoreId),
+    Marks(CoreId),
+    First(ResId),
+    Waiting(ResId),
+}
+
 #[derive(Drop)]
 struct Line {
     label: String,
     cells: Vec<u8>,
+}
+
+// The lines of a picture, each with a cell for each tick of the window.
+#[derive(Drop)]
+struct Lines<'a> {
+    scene: &'a Scene<'a>,
+    shapes: &'a Shapes,
+    lines: Vec<Line>,
 }
 
 fn letter(task: TaskId) -> u8 {
@@ -45,6 +64,16 @@ fn sign(kind: Kind) -> u8 {
     }
 }
 
+// The sign of a cell in which something happens beside what is there.
+fn event_sign(moment: Moment, cell: u8) -> u8 {
+    match (moment, cell) {
+        (Moment::Completion, _) => cell,
+        (Moment::Release, b'v' | b'X') | (Moment::Deadline, b'^' | b'X') => b'X',
+        (Moment::Release, _) => b'^',
+        (Moment::Deadline, _) => b'v',
+    }
+}
+
 // Paints the cells of the ticks from one on and up to another.
 fn paint(cells: &mut Vec<u8>, window: Window, first: u64, end: u64, sign: u8) {
     let from = window.from as u64;
@@ -55,232 +84,164 @@ fn paint(cells: &mut Vec<u8>, window: Window, first: u64, end: u64, sign: u8) {
     }
 }
 
-// The cells of a line before anything is painted: a dot for each tick before this one.
-fn cells_until(scene: &Scene<'_>, end: u64) -> Result<Vec<u8>, Memory> {
-    let window = scene.window;
-    let mut cells = vec![in scene.alloc; b' '; window.ticks() as usize]?;
-    paint(&mut cells, window, 0, end, b'.');
-    Ok(cells)
-}
-
-// The digits of each tenth tick, where they begin in this part of the line, and signs between them.
-fn axis_sign(part: u32, tick: u32, digits: &str) -> u8 {
-    let place = tick % 10;
-    let dash = if place == 5 { b'+' } else { b'-' };
-    if tick - place < part {
-        return dash;
-    }
-    digits
-        .as_bytes()
-        .get(place as usize)
-        .copied()
-        .unwrap_or(dash)
-}
-
-fn axis(scene: &Scene<'_>) -> Result<Vec<u8>, Memory> {
-    let (window, mut cells) = (scene.window, Vec::new(scene.alloc));
-    for tick in window.from..window.to {
-        let part = tick - (tick - window.from) % LINE_TICKS;
-        let digits = format!(in scene.alloc; "{}", tick - tick % 10)?;
-        cells.push(axis_sign(part, tick, &digits))?;
-    }
-    Ok(cells)
-}
-
-// How many ticks of a core have a legal row.
-fn ticks_of(scene: &Scene<'_>, core: CoreId) -> u64 {
-    scene.rows.iter().filter(|row| row.core == core).count() as u64
-}
-
-// Whether one job of a task runs right after another one.
-fn is_next_job(last: Option<JobId>, job: JobId) -> bool {
-    matches!(last, Some(before) if before.task == job.task && before.k != job.k)
-}
-
-// The violation, if it is on this core.
-fn violation_on(shapes: &Shapes, core: CoreId) -> Option<Violation> {
-    shapes
-        .violation
-        .filter(|violation| violation.row.core == core)
-}
-
-// Who runs on a core: the letter of the job's task, and a border where another job of the task follows.
-fn who_runs(scene: &Scene<'_>, shapes: &Shapes, core: CoreId) -> Result<Vec<u8>, Memory> {
-    let (window, mut cells) = (scene.window, cells_until(scene, ticks_of(scene, core))?);
-    let (mut end, mut last) = (0, None);
-    for block in &shapes.blocks {
-        if let Some(job) = block.job
-            && block.lane == Lane::Core(core)
-            && block.is_legal
-        {
-            paint(&mut cells, window, block.first, block.end, letter(job.task));
-            if end == block.first && is_next_job(last, job) {
-                paint(
-                    &mut cells,
-                    window,
-                    block.first,
-                    block.first.saturating_add(1),
-                    b'|',
-                );
-            }
-            (end, last) = (block.end, Some(job));
-        }
-    }
-    if let Some(violation) = violation_on(shapes, core) {
-        let (tick, job) = (violation.row.tick as u64, violation.row.job);
-        let sign = job.map_or(b'.', |job| letter(job.task));
-        paint(&mut cells, window, tick, tick + 1, sign);
-    }
-    Ok(cells)
-}
-
 // Whether the plan has the task on this core.
 fn is_on(plan: &Plan, task: TaskId, core: CoreId) -> bool {
     task.0 < plan.tasks() && plan.core_of(task) == core
 }
 
-// What a block of a task on this core shows, before the fault.
-fn deed_of(plan: &Plan, core: CoreId, block: &Block) -> Option<Kind> {
-    match (block.lane, block.look) {
-        (Lane::Task(task), Look::Does(kind)) if block.is_legal && is_on(plan, task, core) => {
-            Some(kind)
+// Whether a job runs right after another one of its task.
+fn is_next_job(before: Option<Block>, block: &Block) -> bool {
+    let last = before.filter(|before| before.end == block.first && before.look == Look::Runs);
+    match (last.and_then(|last| last.job), block.job) {
+        (Some(last), Some(job)) => last.task == job.task && last.k != job.k,
+        _ => false,
+    }
+}
+
+// What a line shows of a block, if anything.
+fn sign_of(plan: &Plan, shown: Shown, block: &Block) -> Option<u8> {
+    match (shown, block.lane, block.look) {
+        _ if !block.is_legal => None,
+        (Shown::Jobs(core), Lane::Core(on), _) if on == core => Some(letter(block.job?.task)),
+        (Shown::Deeds(core), Lane::Task(task), Look::Does(kind)) if is_on(plan, task, core) => {
+            Some(sign(kind))
+        }
+        (Shown::First(res), Lane::Queue(on), _) if on == res => Some(letter(block.job?.task)),
+        (Shown::Waiting(res), Lane::Queue(on), Look::First(waiting)) if on == res => {
+            Some(WAITING.get(waiting as usize).copied().unwrap_or(b'+'))
         }
         _ => None,
     }
 }
 
-// What the jobs of a core do.
-fn what_is_done(scene: &Scene<'_>, shapes: &Shapes, core: CoreId) -> Result<Vec<u8>, Memory> {
-    let (window, mut cells) = (scene.window, cells_until(scene, ticks_of(scene, core))?);
-    for block in &shapes.blocks {
-        if let Some(kind) = deed_of(scene.plan, core, block) {
-            paint(&mut cells, window, block.first, block.end, sign(kind));
-        }
-    }
-    if let Some(violation) = violation_on(shapes, core) {
-        let (tick, kind) = (violation.row.tick as u64, violation.row.kind);
-        paint(&mut cells, window, tick, tick + 1, sign(kind));
-    }
-    Ok(cells)
-}
-
-// The mark below a row that violates a rule.
-fn mark(scene: &Scene<'_>, violation: Violation) -> Result<Vec<u8>, Memory> {
-    let (mut cells, tick) = (cells_until(scene, 0)?, violation.row.tick as u64);
-    paint(&mut cells, scene.window, tick, tick + 1, b'!');
-    Ok(cells)
-}
-
-// A cell of a line of events, with one event more.
-fn with_event(cell: u8, moment: Moment) -> u8 {
-    match (moment, cell) {
-        (Moment::Release, b'v' | b'X') => b'X',
-        (Moment::Release, _) => b'^',
-        (Moment::Deadline, b'^' | b'X') => b'X',
-        (Moment::Deadline, _) => b'v',
-        (Moment::Completion, _) => cell,
-    }
-}
-
-fn paint_event(cells: &mut Vec<u8>, window: Window, event: &Event) {
-    let place = event.tick.saturating_sub(window.from as u64);
-    if let Some(cell) = cells.get_mut(place as usize) {
-        *cell = with_event(*cell, event.moment);
-    }
-}
-
-// The releases and absolute deadlines of a core's jobs.
-fn events(scene: &Scene<'_>, shapes: &Shapes, core: CoreId) -> Result<Vec<u8>, Memory> {
-    let mut cells = cells_until(scene, scene.window.to as u64)?;
-    for event in &shapes.events {
-        if is_on(scene.plan, event.job.task, core) {
-            paint_event(&mut cells, scene.window, event);
-        }
-    }
-    Ok(cells)
-}
-
-// The signs of a block in the lane of a resource: who is first in its queue, and how many wait.
-fn queue_signs(res: ResId, block: &Block) -> Option<(u8, u8)> {
-    match (block.look, block.job) {
-        (Look::First(waiting), Some(job)) if block.lane == Lane::Queue(res) => {
-            let count = WAITING.get(waiting as usize).copied().unwrap_or(b'+');
-            Some((letter(job.task), count))
-        }
+// What a line shows of the row that violates a rule, if anything.
+fn fault_sign(shown: Shown, row: Row) -> Option<u8> {
+    match shown {
+        Shown::Jobs(core) if core == row.core => Some(row.job.map_or(b'.', |job| letter(job.task))),
+        Shown::Deeds(core) if core == row.core => Some(sign(row.kind)),
+        Shown::Marks(core) if core == row.core => Some(b'!'),
         _ => None,
     }
 }
 
-// Adds the lines of a resource.
-fn push_queue(lines: &mut Vec<Line>, scene: &Scene<'_>, shapes: &Shapes, res: ResId) -> Added {
-    let (window, alloc) = (scene.window, scene.alloc);
-    let mut who = cells_until(scene, scene.ticks_begun())?;
-    let mut waiting = cells_until(scene, scene.ticks_begun())?;
-    for block in &shapes.blocks {
-        if let Some((first, count)) = queue_signs(res, block) {
-            paint(&mut who, window, block.first, block.end, first);
-            paint(&mut waiting, window, block.first, block.end, count);
+impl<'a> Lines<'a> {
+    // Cells with a dot for each tick before this one.
+    fn dots(&self, end: u64) -> Result<Vec<u8>, Memory> {
+        let window = self.scene.window;
+        let mut cells = vec![in self.scene.alloc; b' '; window.ticks() as usize]?;
+        paint(&mut cells, window, 0, end, b'.');
+        Ok(cells)
+    }
+
+    // Paints the blocks, with a border where another job of the same task follows.
+    fn paint_blocks(&self, cells: &mut Vec<u8>, shown: Shown) {
+        let (window, mut before) = (self.scene.window, None);
+        for block in &self.shapes.blocks {
+            if let Some(sign) = sign_of(self.scene.plan, shown, block) {
+                paint(cells, window, block.first, block.end, sign);
+                if is_next_job(before, block) {
+                    let next = block.first.saturating_add(1);
+                    paint(cells, window, block.first, next, b'|');
+                }
+                before = Some(*block);
+            }
         }
     }
-    push(
-        lines,
-        format!(in alloc; "{}", res_name(scene.plan, res))?,
-        who,
-    )?;
-    push(lines, format!(in alloc; "  waiting")?, waiting)
-}
 
-fn push(lines: &mut Vec<Line>, label: String, cells: Vec<u8>) -> Added {
-    lines.push(Line { label, cells })?;
-    Ok(())
-}
-
-fn push_core(lines: &mut Vec<Line>, scene: &Scene<'_>, shapes: &Shapes, core: CoreId) -> Added {
-    let (alloc, label) = (scene.alloc, format!(in scene.alloc; "core {}", core.0)?);
-    push(lines, label, who_runs(scene, shapes, core)?)?;
-    push(
-        lines,
-        String::new(alloc),
-        what_is_done(scene, shapes, core)?,
-    )?;
-    if let Some(violation) = violation_on(shapes, core) {
-        push(lines, String::new(alloc), mark(scene, violation)?)?;
+    // Adds a line with dots for the ticks before this one.
+    fn add<T: Display>(&mut self, label: &T, shown: Shown, end: u64) -> Added {
+        let (label, mut cells) = (format!(in self.scene.alloc; "{label}")?, self.dots(end)?);
+        self.paint_blocks(&mut cells, shown);
+        if let Some(Violation { row, .. }) = self.shapes.violation
+            && let Some(sign) = fault_sign(shown, row)
+        {
+            let (window, tick) = (self.scene.window, u64::from(row.tick));
+            paint(&mut cells, window, tick, tick.saturating_add(1), sign);
+        }
+        self.lines.push(Line { label, cells })?;
+        Ok(())
     }
-    push(
-        lines,
-        format!(in alloc; "  events")?,
-        events(scene, shapes, core)?,
-    )
-}
 
-fn push_cores(lines: &mut Vec<Line>, scene: &Scene<'_>, shapes: &Shapes) -> Added {
-    for core in 0..scene.plan.cores() {
-        push_core(lines, scene, shapes, CoreId(core))?;
+    // Adds the releases and absolute deadlines of a core's jobs.
+    fn add_events(&mut self, core: CoreId) -> Added {
+        let (scene, window, alloc) = (self.scene, self.scene.window, self.scene.alloc);
+        let mut cells = self.dots(window.to as u64)?;
+        for event in &self.shapes.events {
+            let place = event.tick.saturating_sub(window.from as u64);
+            if let Some(cell) = cells.get_mut(place as usize)
+                && is_on(scene.plan, event.job.task, core)
+            {
+                *cell = event_sign(event.moment, *cell);
+            }
+        }
+        let label = format!(in alloc; "  events")?;
+        self.lines.push(Line { label, cells })?;
+        Ok(())
     }
-    Ok(())
+
+    // Adds who runs on a core, what is done, a mark below a row that violates a rule, and the events.
+    fn add_core(&mut self, core: CoreId) -> Added {
+        let of_core = self.scene.rows.iter().filter(|row| row.core == core);
+        let ticks = of_core.count() as u64;
+        self.add(&format_args!("core {}", core.0), Shown::Jobs(core), ticks)?;
+        self.add(&"", Shown::Deeds(core), ticks)?;
+        if matches!(self.shapes.violation, Some(violation) if violation.row.core == core) {
+            self.add(&"", Shown::Marks(core), 0)?;
+        }
+        self.add_events(core)
+    }
+
+    fn add_cores(&mut self) -> Added {
+        for core in 0..self.scene.plan.cores() {
+            self.add_core(CoreId(core))?;
+        }
+        Ok(())
+    }
+
+    // Adds who is first in the queue of each global resource, and how many wait.
+    fn add_queues(&mut self) -> Added {
+        let (scene, ticks) = (self.scene, self.scene.ticks_begun());
+        for res in 0..scene.plan.resources() {
+            if scene.levels.is_global(ResId(res)) {
+                let name = res_name(scene.plan, ResId(res));
+                self.add(&name, Shown::First(ResId(res)), ticks)?;
+                self.add(&"  waiting", Shown::Waiting(ResId(res)), ticks)?;
+            }
+        }
+        Ok(())
+    }
+
+    // Writes the axis of a part, and what it shows of each line.
+    fn write_part(&self, text: &mut String, part: u32) -> Added {
+        let (alloc, cell) = (self.scene.alloc, part.saturating_mul(LINE_TICKS));
+        let first = self.scene.window.from.saturating_add(cell);
+        let end = self.scene.window.to.min(first.saturating_add(LINE_TICKS));
+        let axis = axis(alloc, first, end)?;
+        write!(text, "\n{:<18}{axis}\n", "tick")?;
+        for line in &self.lines {
+            write_line(text, alloc, line, cell as usize)?;
+        }
+        Ok(())
+    }
 }
 
-fn push_queues(lines: &mut Vec<Line>, scene: &Scene<'_>, shapes: &Shapes) -> Added {
-    for res in 0..scene.plan.resources() {
-        if scene.levels.is_global(ResId(res)) {
-            push_queue(lines, scene, shapes, ResId(res))?;
+// The number of each tenth tick where it begins, and signs between them.
+fn axis(alloc: Global, from: u32, to: u32) -> Result<String, Memory> {
+    let mut axis = String::new(alloc);
+    for tick in from..to {
+        match tick % 10 {
+            _ if axis.len() as u64 > (tick - from) as u64 => {}
+            0 => write!(axis, "{tick}")?,
+            5 => axis.push('+')?,
+            _ => axis.push('-')?,
         }
     }
-    Ok(())
+    Ok(axis)
 }
 
-fn lines_of(scene: &Scene<'_>, shapes: &Shapes) -> Result<Vec<Line>, Memory> {
-    let mut lines = Vec::new(scene.alloc);
-    push(&mut lines, format!(in scene.alloc; "tick")?, axis(scene)?)?;
-    push_cores(&mut lines, scene, shapes)?;
-    push_queues(&mut lines, scene, shapes)?;
-    Ok(lines)
-}
-
-// Adds what a part shows of a line.
-fn add_line(text: &mut String, scene: &Scene<'_>, line: &Line, part: u32) -> Added {
-    let first = part as usize * LINE_TICKS as usize;
-    let mut cells = String::new(scene.alloc);
+// Writes the cells of a part that begins with this one.
+fn write_line(text: &mut String, alloc: Global, line: &Line, first: usize) -> Added {
+    let mut cells = String::new(alloc);
     for cell in line.cells.iter().skip(first).take(LINE_TICKS as usize) {
         cells.push(*cell as char)?;
     }
@@ -289,34 +250,35 @@ fn add_line(text: &mut String, scene: &Scene<'_>, line: &Line, part: u32) -> Add
     Ok(())
 }
 
-fn add_part(text: &mut String, scene: &Scene<'_>, lines: &[Line], part: u32) -> Added {
-    text.push_str("\n")?;
-    for line in lines {
-        add_line(text, scene, line, part)?;
-    }
-    Ok(())
-}
-
-fn add_legend(text: &mut String, plan: &Plan) -> Added {
-    text.push_str("\n")?;
+fn write_tasks(text: &mut String, plan: &Plan) -> Added {
     for task in 0..plan.tasks() {
         let (task, name) = (TaskId(task), plan.task_name(TaskId(task)));
         let (letter, core) = (letter(task) as char, plan.core_of(task).0);
         writeln!(text, "{letter}: {name} on core {core}")?;
     }
-    text.push_str(LEGEND)?;
     Ok(())
 }
 
 /// A picture in plain text.
 pub(crate) fn text(scene: &Scene<'_>, shapes: &Shapes) -> Result<String, Memory> {
-    let lines = lines_of(scene, shapes)?;
+    let lines = Vec::new(scene.alloc);
+    let mut lines = Lines {
+        scene,
+        shapes,
+        lines,
+    };
+    lines.add_cores()?;
+    lines.add_queues()?;
     let mut text = String::new(scene.alloc);
-    let (verdict, ticks) = (verdict(scene.alloc, scene.found)?, drawn_ticks(scene)?);
-    write!(text, "{verdict}\n{ticks}\n")?;
+    say_verdict(&mut text, scene.found)?;
+    text.push_str("\n")?;
+    say_ticks(&mut text, scene)?;
+    text.push_str("\n")?;
     for part in 0..scene.window.ticks().div_ceil(LINE_TICKS) {
-        add_part(&mut text, scene, &lines, part)?;
+        lines.write_part(&mut text, part)?;
     }
-    add_legend(&mut text, scene.plan)?;
+    text.push_str("\n")?;
+    write_tasks(&mut text, scene.plan)?;
+    text.push_str(LEGEND)?;
     Ok(text)
 }

@@ -3,7 +3,7 @@ ghost use Rattle.std.specs.Prelude.{◌≡◌, ◌++◌, ◌<◌, ◌-◌, ◌^�
 ghost use Rattle.msrp_plan.specs.Common.{ℕ, List, IfOk, OnOk};
 ghost use Rattle.msrp_plan.specs.Requests.{HasTaken};
 ghost use Rattle.msrp_plan.specs.declared.rows.Row.{Row as TraceRow};
-ghost use Rattle.msrp_picture.specs.Queues.{first_of, queue_blocks, queue_ticks};
+ghost use Rattle.msrp_picture.specs.Lanes.{first_of, queue_blocks, queue_ticks};
 ghost use Rattle.msrp_picture.specs.Rows.{rows_in};
 
 use crate::Added;

@@ -1,7 +1,7 @@
 //! Critical sections: from the row in which a job gets a resource to the one in which it gives it back.
 ghost use Rattle.msrp_plan.specs.Common.{find, OnOk};
 ghost use Rattle.std.specs.Prelude.{◌≡◌, ◌++◌, option_copied};
-ghost use Rattle.msrp_picture.specs.Sections.{ends_section, first_section, section_end, sections, gets, gives_back};
+ghost use Rattle.msrp_picture.specs.Lanes.{ends_section, first_section, section_end, sections, gets, gives_back};
 
 use crate::Added;
 use crate::shapes::{Block, Lane, Look, lasting};

@@ -1,6 +1,6 @@
 //! Which ticks are drawn.
 ghost use Rattle.std.specs.Prelude.{◌≡◌};
-ghost use Rattle.msrp_picture.specs.Windows.{shown_window, window_of, around, expected_tick, is_at, is_seen};
+ghost use Rattle.msrp_picture.specs.Windows.{window_of, is_at, is_seen};
 
 use crate::Verdict;
 use crate::shapes::{Block, Event};
@@ -51,27 +51,21 @@ pub fn window_of(plan: &Plan, asked: Asked) -> Option<Window>
 }
 
 /// The tick in which the row of this number is expected. Rows count from 1, and each tick has a row for each core.
-pub(crate) fn expected_tick(plan: &Plan, row: u32) -> u32
-    ensures { result ≡ expected_tick plan.now row }
-{
+pub(crate) fn expected_tick(plan: &Plan, row: u32) -> u32 {
     row.saturating_sub(1) / plan.cores()
 }
 
 // At most SHORT_RUN ticks of the plan, half of them before this one.
-fn around(plan: &Plan, tick: u32) -> Window
-    ensures { result ≡ around plan.now tick }
-{
+fn around(plan: &Plan, tick: u32) -> Window {
     let from = tick
         .saturating_sub(SHORT_RUN / 2)
         .min(plan.ticks().saturating_sub(SHORT_RUN));
-    let to = plan.ticks().min(from + SHORT_RUN);
+    let to = plan.ticks().min(from.saturating_add(SHORT_RUN));
     Window { from, to }
 }
 
 /// The ticks that are drawn: the window, but where no ticks are asked for and a rule is violated those around the fault.
-pub(crate) fn shown_window(plan: &Plan, asked: Asked, window: Window, found: Verdict) -> Window
-    ensures { result ≡ shown_window plan.now asked window found }
-{
+pub(crate) fn shown_window(plan: &Plan, asked: Asked, window: Window, found: Verdict) -> Window {
     match (asked.from, asked.to, found) {
         (None, None, Err(fault)) => around(plan, expected_tick(plan, fault.row)),
         _ => window,

@@ -1,11 +1,11 @@
-//! The words of a picture: names, and what is said of a block, an event and a violation.
+//! What a picture says: names, the verdict, and a sentence for each block, event and violation.
 
-use crate::Verdict;
 use crate::scene::Scene;
 use crate::shapes::{Block, Event, Look, Moment, Violation};
 use crate::windows::expected_tick;
-use msrp_plan::{JobId, Kind, Memory, Plan, ResId, TaskId};
-use std::alloc::Global;
+use crate::{Added, Verdict};
+use msrp_plan::{JobId, Kind, Plan, ResId, TaskId};
+use std::fmt;
 
 /// The name of a task; nothing where the plan has no such task.
 pub(crate) fn task_name(plan: &Plan, task: TaskId) -> &str {
@@ -25,45 +25,30 @@ pub(crate) fn res_name(plan: &Plan, res: ResId) -> &str {
     }
 }
 
-/// The record of a verdict.
-pub(crate) fn verdict(alloc: Global, found: Verdict) -> Result<String, Memory> {
-    let text = match found {
-        Ok(()) => format!(in alloc; "good")?,
-        Err(fault) => format!(in alloc; "fault,{},{:?}", fault.row, fault.rule)?,
-    };
-    Ok(text)
-}
-
-/// Which of the plan's ticks are drawn, and in which one the fault is.
-pub(crate) fn drawn_ticks(scene: &Scene<'_>) -> Result<String, Memory> {
-    let (first, all) = (scene.window.from, scene.plan.ticks());
-    let last = scene.window.to.saturating_sub(1);
-    let mut text = format!(in scene.alloc; "ticks {first} to {last} of {all}")?;
-    if let Err(fault) = scene.found {
-        let tick = expected_tick(scene.plan, fault.row);
-        write!(text, ", the fault in tick {tick}")?;
-    }
-    Ok(text)
-}
-
 // A job by its number and task.
-fn who(scene: &Scene<'_>, job: Option<JobId>) -> Result<String, Memory> {
-    let text = match job {
-        Some(job) => {
-            format!(in scene.alloc; "job {} of {}", job.k, task_name(scene.plan, job.task))?
+#[derive(Clone, Copy)]
+struct Who<'a>(&'a Plan, Option<JobId>);
+
+impl fmt::Display for Who<'_> {
+    fn fmt<W: fmt::Write>(&self, f: &mut fmt::Formatter<W>) -> fmt::Result {
+        match self.1 {
+            Some(job) => write!(f, "job {} of {}", job.k, task_name(self.0, job.task)),
+            None => write!(f, "no job"),
         }
-        None => format!(in scene.alloc; "no job")?,
-    };
-    Ok(text)
+    }
 }
 
 // The name of a resource after a blank, if there is one.
-fn on_what(scene: &Scene<'_>, res: Option<ResId>) -> Result<String, Memory> {
-    let text = match res {
-        Some(res) => format!(in scene.alloc; " {}", res_name(scene.plan, res))?,
-        None => String::new(scene.alloc),
-    };
-    Ok(text)
+#[derive(Clone, Copy)]
+struct What<'a>(&'a Plan, Option<ResId>);
+
+impl fmt::Display for What<'_> {
+    fn fmt<W: fmt::Write>(&self, f: &mut fmt::Formatter<W>) -> fmt::Result {
+        match self.1 {
+            Some(res) => write!(f, " {}", res_name(self.0, res)),
+            None => Ok(()),
+        }
+    }
 }
 
 fn deed(kind: Kind) -> &'static str {
@@ -79,61 +64,76 @@ fn deed(kind: Kind) -> &'static str {
     }
 }
 
-// What a block shows, after its job and before its resource.
-fn shown(alloc: Global, look: Look) -> Result<String, Memory> {
-    let text = match look {
-        Look::Runs => format!(in alloc; " runs")?,
-        Look::Does(kind) => format!(in alloc; " {}", deed(kind))?,
-        Look::Holds => format!(in alloc; " holds")?,
-        Look::First(0) => format!(in alloc; " is alone in the queue of")?,
-        Look::First(waiting) => format!(in alloc; " is ahead of {waiting} in the queue of")?,
-        Look::Life(true) => format!(in alloc; ", from release to completion")?,
-        Look::Life(false) => format!(in alloc; ", released and not finished")?,
-        Look::Late => format!(in alloc; " is past its absolute deadline")?,
-        Look::Ceiling(level) => format!(in alloc; "ceiling {level}")?,
-    };
-    Ok(text)
+/// Writes the record of a verdict.
+pub(crate) fn say_verdict(text: &mut String, found: Verdict) -> Added {
+    match found {
+        Ok(()) => text.push_str("good")?,
+        Err(fault) => write!(text, "fault,{},{:?}", fault.row, fault.rule)?,
+    }
+    Ok(())
 }
 
-/// What is said of a block where one points at it.
-pub(crate) fn block_title(scene: &Scene<'_>, block: &Block) -> Result<String, Memory> {
+/// Writes which of the plan's ticks are drawn, and in which one the fault is.
+pub(crate) fn say_ticks(text: &mut String, scene: &Scene<'_>) -> Added {
+    let (first, all) = (scene.window.from, scene.plan.ticks());
+    let last = scene.window.to.saturating_sub(1);
+    write!(text, "ticks {first} to {last} of {all}")?;
+    if let Err(fault) = scene.found {
+        let tick = expected_tick(scene.plan, fault.row);
+        write!(text, ", the fault in tick {tick}")?;
+    }
+    Ok(())
+}
+
+/// Writes what a block shows.
+pub(crate) fn say_block(text: &mut String, plan: &Plan, block: &Block) -> Added {
     let (first, last) = (block.first, block.end.saturating_sub(1));
-    let (shown, what) = (shown(scene.alloc, block.look)?, on_what(scene, block.res)?);
-    let mut text = format!(in scene.alloc; "tick {first}")?;
     if first < last {
-        text = format!(in scene.alloc; "ticks {first} to {last}")?;
+        write!(text, "ticks {first} to {last}: ")?;
+    } else {
+        write!(text, "tick {first}: ")?;
     }
+    let (who, what) = (Who(plan, block.job), What(plan, block.res));
     match block.look {
-        Look::Ceiling(_) => write!(text, ": {shown}")?,
-        _ => {
-            let who = who(scene, block.job)?;
-            write!(text, ": {who}{shown}{what}")?;
-        }
+        Look::Runs => write!(text, "{who} runs")?,
+        Look::Does(kind) => write!(text, "{who} {}{what}", deed(kind))?,
+        Look::Holds => write!(text, "{who} holds{what}")?,
+        Look::First(0) => write!(text, "{who} is alone in the queue of{what}")?,
+        Look::First(waiting) => write!(text, "{who} is ahead of {waiting} in the queue of{what}")?,
+        Look::Life(true) => write!(text, "{who}, from release to completion")?,
+        Look::Life(false) => write!(text, "{who}, released and not finished")?,
+        Look::Late => write!(text, "{who} is past its absolute deadline")?,
+        Look::Ceiling(level) => write!(text, "ceiling {level}")?,
     }
-    Ok(text)
+    Ok(())
 }
 
-/// What is said of an event.
-pub(crate) fn event_title(scene: &Scene<'_>, event: &Event) -> Result<String, Memory> {
-    let (tick, who) = (event.tick, who(scene, Some(event.job))?);
-    let text = match event.moment {
-        Moment::Release => format!(in scene.alloc; "at {tick}: release of {who}")?,
-        Moment::Deadline => format!(in scene.alloc; "at {tick}: absolute deadline of {who}")?,
-        Moment::Completion => format!(in scene.alloc; "at {tick}: completion of {who}")?,
-    };
-    Ok(text)
+/// The symbol of a moment, and its words.
+pub(crate) fn moment_words(moment: Moment) -> (&'static str, &'static str) {
+    match moment {
+        Moment::Release => ("release", "release"),
+        Moment::Deadline => ("deadline", "absolute deadline"),
+        Moment::Completion => ("completion", "completion"),
+    }
 }
 
-/// What is said of the first row that violates a rule.
-pub(crate) fn violation_title(scene: &Scene<'_>, violation: &Violation) -> Result<String, Memory> {
+/// Writes what an event is.
+pub(crate) fn say_event(text: &mut String, plan: &Plan, event: &Event) -> Added {
+    let (_, moment) = moment_words(event.moment);
+    let (tick, who) = (event.tick, Who(plan, Some(event.job)));
+    write!(text, "at {tick}: {moment} of {who}")?;
+    Ok(())
+}
+
+/// Writes what is wrong with the first row that violates a rule.
+pub(crate) fn say_violation(text: &mut String, plan: &Plan, violation: &Violation) -> Added {
     let (row, rule) = (violation.row, violation.rule);
-    let (who, deed, what) = (
-        who(scene, row.job)?,
-        deed(row.kind),
-        on_what(scene, row.res)?,
-    );
-    let (tick, core) = (row.tick, row.core.0);
-    Ok(format!(in scene.alloc;
-        "tick {tick}, core {core}: {who} {deed}{what}, which violates rule {rule:?}"
-    )?)
+    let (who, what, deed) = (Who(plan, row.job), What(plan, row.res), deed(row.kind));
+    write!(
+        text,
+        "tick {}, core {}: {who} {deed}{what}, ",
+        row.tick, row.core.0
+    )?;
+    write!(text, "which violates rule {rule:?}")?;
+    Ok(())
 }

@@ -2,7 +2,7 @@ use Rattle.msrp_plan.proofs.Common.{slice_index_or, ℕ, Bool, List, cond, lengt
 use Rattle.std.proofs.Common.{◌<◌, ◌∙◌, filter}
 use Rattle.msrp_levels.specs.Users.{ceiling_at}
 use Rattle.msrp_picture.specs.Types.{PlanModel}
-use Rattle.msrp_picture.specs.Ceilings.{is_claimed}
+use Rattle.msrp_picture.specs.Lanes.{is_claimed}
 use Rattle.msrp_picture.proofs.Claims.{greatest-some, max-zero}
 use Rattle.msrp_picture.proofs.ceilings.ceiling_of.Goals.{then-claimed-res, else-claimed-res}
 use Rattle.msrp_picture.proofs.ceilings.ceiling_of.Goals as goal

@@ -2,7 +2,7 @@ use Rattle.msrp_plan.proofs.Common.{List, map, range_with_len, greatest}
 use Rattle.std.proofs.Common.{◌≡◌, filter}
 use Rattle.msrp_levels.specs.Users.{ceiling_at}
 use Rattle.msrp_picture.specs.Types.{Row}
-use Rattle.msrp_picture.specs.Ceilings.{claims, is_claimed}
+use Rattle.msrp_picture.specs.Lanes.{claims, is_claimed}
 use Rattle.msrp_picture.proofs.ceilings.ceiling_of.Given as goal
 
 abbrev pub invariant-loop-res : goal.invariant-loop-res

@@ -1,6 +1,6 @@
 use Rattle.msrp_plan.proofs.Common.{ap, arith, Bool, List, length, not, slice_set}
 use Rattle.std.proofs.Common.{◌∙◌}
-use Rattle.msrp_picture.specs.Ceilings.{claims}
+use Rattle.msrp_picture.specs.Lanes.{claims}
 use Rattle.msrp_picture.proofs.Claims.{claims-kept, claims-set, claims-size}
 use Rattle.msrp_picture.proofs.ceilings.note_claim.Goals as goal
 

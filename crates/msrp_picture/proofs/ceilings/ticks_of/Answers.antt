@@ -1,7 +1,7 @@
 use Rattle.msrp_plan.proofs.Common.{ℕ, [], ap, arith, length, sym, take, take_more}
 use Rattle.std.proofs.Common.{◌+◌, ◌∷◌, ◌++◌, ◌∙◌}
 use Rattle.msrp_picture.specs.Types.{Row}
-use Rattle.msrp_picture.specs.Ceilings.{claims, raised, claims_ceiling}
+use Rattle.msrp_picture.specs.Lanes.{claims, raised, claims_ceiling}
 use Rattle.msrp_picture.proofs.Claims.{claims-size}
 use Rattle.msrp_picture.proofs.Growing.{grows-each}
 use Rattle.msrp_picture.proofs.ceilings.ticks_of.Goals as goal

@@ -1,6 +1,6 @@
 use Rattle.std.proofs.Common.{◌≡◌, ◌+◌}
 use Rattle.msrp_plan.proofs.Common.{ℕ, take, flat_map, range_with_len}
-use Rattle.msrp_picture.specs.Ceilings.{claims, claims_ceiling, raised}
+use Rattle.msrp_picture.specs.Lanes.{claims, claims_ceiling, raised}
 use Rattle.msrp_picture.proofs.ceilings.ticks_of.Given as goal
 
 abbrev pub invariant-loop-tick : goal.invariant-loop-tick

@@ -1,5 +1,5 @@
 use Rattle.msrp_plan.proofs.Common.{ℕ, arith, common_steps, is_global}
-use Rattle.msrp_picture.specs.Queues.{queue_blocks}
+use Rattle.msrp_picture.specs.Lanes.{queue_blocks}
 use Rattle.msrp_picture.proofs.Growing.{grows-some}
 use Rattle.msrp_picture.proofs.drawing.push_queues.Goals as goal
 

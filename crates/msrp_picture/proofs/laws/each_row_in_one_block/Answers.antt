@@ -3,7 +3,7 @@ use Rattle.std.proofs.Common.{◌≡◌, ◌+◌, ◌-◌, ◌≤◌, ◌∷◌,
 use Rattle.msrp_plan.proofs.Common.{option_map, ℕ, Bool, true, false, cond, List, [], Option, Some, None, map, append_assoc, ap, refl, sym, arith, and_parts, map-append, AllByRecursion, cons_option, flat_map, range_with_len, same_choice_is, same_res_is, range_more, same_kind_is}
 use Rattle.std.proofs.lemmas.Bool.{eqb-true}
 use Rattle.msrp_picture.specs.Types.{JobId, Lane, Look, ResId, Row, Block}
-use Rattle.msrp_picture.specs.Blocks.{goes_on, joined, look_of, merged, res_of, same_look}
+use Rattle.msrp_picture.specs.Blocks.{goes_on, joined, look_of, merged, same_look}
 use Rattle.msrp_picture.specs.Laws.{shown_rows, ticks_of}
 use Rattle.msrp_picture.specs.declared.shapes.Look.TheVariants.{Ceiling, Does, First, Runs}
 use Rattle.msrp_picture.proofs.laws.each_row_in_one_block.Goals as goal
@@ -86,10 +86,10 @@ each-tick : (lane : Lane) (legal : Bool) (rows : List Row) → AllByRecursion (I
 each-tick lane legal [] = tt
 each-tick lane legal (r ∷ rows) = by_look (look_of lane r) (each-tick lane legal rows)
   where
-    by_look : (o : Option Look) → AllByRecursion (IsTickOf lane legal) (shown_rows lane legal rows)
-        → AllByRecursion (IsTickOf lane legal) (cons_option (option_map (λ look. whole_of r.tick (r.tick + 1) lane look legal r.job (res_of lane r)) o) (shown_rows lane legal rows))
+    by_look : (o : Option (Look × Option ResId)) → AllByRecursion (IsTickOf lane legal) (shown_rows lane legal rows)
+        → AllByRecursion (IsTickOf lane legal) (cons_option (option_map (λ (shown : Look × Option ResId). whole_of r.tick (r.tick + 1) lane shown.0 legal r.job shown.1) o) (shown_rows lane legal rows))
     by_look None all = all
-    by_look (Some look) all = (record { whole = refl; lane = refl; legal = refl }, all)
+    by_look (Some shown) all = (record { whole = refl; lane = refl; legal = refl }, all)
 
 pub returns : goal.returns
 returns c lane legal rows = merged-apart lane legal (shown_rows lane legal rows) (each-tick lane legal rows)

@@ -4,7 +4,7 @@ use Rattle.msrp_plan.proofs.Common.{ℕ, List, [], ap, sym, arith, take, drop, s
 use Rattle.std.specs.List.{slice_range}
 use Rattle.msrp_plan.specs.Requests.{HasTaken}
 use Rattle.msrp_picture.specs.Types.{PlanModel, Row}
-use Rattle.msrp_picture.specs.Queues.{first_of}
+use Rattle.msrp_picture.specs.Lanes.{first_of}
 use Rattle.msrp_picture.specs.Rows.{rows_in}
 use Rattle.msrp_picture.proofs.Growing.{grows-each}
 use Rattle.msrp_picture.proofs.queues.ticks_of.Goals as goal
