@@ -1,21 +1,18 @@
--- The states of each core, task and resource in a tick and in the tick before. A tick has one row
--- of each core.
-use Rattle.std.specs.Prelude.{if◌then◌else◌, ◌+◌, ◌-◌, ◌*◌}
-use Rattle.msrp_plan.specs.Common.{ℕ, List, take, length, nat_eq, None, PlanModel, Option, Some}
+-- The states of each core, task and resource in a tick and in the tick before. A tick has one row of each core.
+use Rattle.std.specs.Prelude.{if◌then◌else◌, ◌<◌, ◌+◌, ◌-◌, ◌*◌}
+use Rattle.msrp_plan.specs.Common.{ℕ, List, take, length, nat_eq, None, PlanModel, Option, Some, option_map}
 use Rattle.msrp_plan.specs.declared.rows.Row.{Row}
 use Rattle.msrp_export.specs.Signals.{core_action, resource_state, task_status}
-use Rattle.msrp_export.specs.declared.signals.ResourceState.{ResourceState}
-use Rattle.msrp_export.specs.declared.signals.States.{States}
-use Rattle.msrp_export.specs.declared.signals.States.TheVariants.{Core, Resource, Task}
-use Rattle.msrp_export.specs.declared.tasks.TaskStatus.{TaskStatus}
-use Rattle.msrp_export.specs.declared.tracks.Group.{Group}
-use Rattle.msrp_export.specs.declared.tracks.Group.TheVariants.{Cores, Resources, Tasks}
+use Rattle.msrp_export.specs.declared.signals.State.{State}
+use Rattle.msrp_export.specs.declared.signals.State.TheVariants.{Core as CoreState, Resource as StateOfResource, Task as StateOfTask}
+use Rattle.msrp_export.specs.declared.tracks.Track.{Track}
+use Rattle.msrp_export.specs.declared.tracks.Track.TheVariants.{Core, Resource, Task}
 
--- how many tracks of a group a plan has
-abbrev pub track_count : PlanModel → Group → ℕ
-track_count plan Cores = plan.cores
-track_count plan Tasks = length plan.tasks
-track_count plan Resources = length plan.resources
+-- the track is one of the plan
+abbrev pub IsTrack : PlanModel → Track → Type 0
+IsTrack plan (Core c) = c.0 < plan.cores
+IsTrack plan (Task t) = t.0 < length plan.tasks
+IsTrack plan (Resource g) = g.0 < length plan.resources
 
 -- the rows before a tick
 abbrev pub rows_before : PlanModel → List Row → ℕ → List Row
@@ -25,20 +22,15 @@ rows_before plan rows tick = take (tick * plan.cores) rows
 abbrev pub rows_in : PlanModel → List Row → ℕ → List Row
 rows_in plan rows tick = rows_before plan rows (tick + 1)
 
--- what a task does in a tick
-abbrev pub status_in : PlanModel → List Row → ℕ → ℕ → TaskStatus
-status_in plan rows tick t = task_status plan (rows_before plan rows tick) (rows_in plan rows tick) tick t
+-- the state on a track in a tick, by the rows before the tick and those up to its end
+abbrev pub state_of : PlanModel → List Row → List Row → ℕ → Track → Option State
+state_of plan before rows tick (Core c) = option_map CoreState (core_action c.0 rows)
+state_of plan before rows tick (Task t) = Some (StateOfTask (task_status plan before rows tick t.0))
+state_of plan before rows tick (Resource g) = Some (StateOfResource (resource_state g.0 rows))
 
--- what a task did in the tick before, if there is one
-abbrev pub status_before : PlanModel → List Row → ℕ → ℕ → Option TaskStatus
-status_before plan rows tick t = if nat_eq tick 0 then None else Some (status_in plan rows (tick - 1) t)
+abbrev pub state_in : PlanModel → List Row → ℕ → Track → Option State
+state_in plan rows tick track = state_of plan (rows_before plan rows tick) (rows_in plan rows tick) tick track
 
--- the state of a resource in the tick before, if there is one
-abbrev pub state_before : PlanModel → List Row → ℕ → ℕ → Option ResourceState
-state_before plan rows tick g = if nat_eq tick 0 then None else Some (resource_state g (rows_before plan rows tick))
-
--- the states of one core, task or resource in the tick before and in the tick
-abbrev pub states_of : PlanModel → List Row → ℕ → Group → ℕ → States
-states_of plan rows tick Cores c = Core (core_action c (rows_before plan rows tick)) (core_action c (rows_in plan rows tick))
-states_of plan rows tick Tasks t = Task (status_before plan rows tick t) (status_in plan rows tick t)
-states_of plan rows tick Resources g = Resource (state_before plan rows tick g) (resource_state g (rows_in plan rows tick))
+-- in the tick before, if there is one
+abbrev pub state_before : PlanModel → List Row → ℕ → Track → Option State
+state_before plan rows tick track = if nat_eq tick 0 then None else state_in plan rows (tick - 1) track

@@ -2,12 +2,12 @@
 //! no escapes, since a plan's names have letters, digits and `_` only.
 
 use crate::names::{FaultyRow, JobName, resource_name, state_name, task_name};
-use crate::signals::{Change, CoreAction, ResourceState, States};
+use crate::signals::{Change, CoreAction, State};
 use crate::tasks::{TaskState, TaskStatus};
-use crate::tracks::{Group, Track};
+use crate::tracks::Track;
 use crate::walk::Written;
 use bstr::ByteSlice;
-use msrp_plan::{JobId, Kind, Plan, ResId, Row, Rule, TaskId};
+use msrp_plan::{JobId, Kind, Plan, Row, Rule};
 use std::fmt::Write;
 
 /// What comes before the names of the tracks.
@@ -34,16 +34,16 @@ enum Slice {
 
 /// Names a track, and orders the tracks of a group by their numbers.
 pub(crate) fn write_track(text: &mut String, plan: &Plan, track: Track) -> Written {
-    let number = track.number;
     begin_event(text, 'M', track)?;
     text.push_str(r#","name":"thread_name","args":{"name":""#)?;
-    match track.group {
-        Group::Cores => write!(text, "core {number}")?,
-        Group::Tasks => text.push_str(task_name(plan, TaskId(number)))?,
-        Group::Resources => text.push_str(resource_name(plan, Some(ResId(number))))?,
+    match track {
+        Track::Core(core) => write!(text, "core {}", core.0)?,
+        Track::Task(task) => text.push_str(task_name(plan, task))?,
+        Track::Resource(res) => text.push_str(resource_name(plan, Some(res)))?,
     }
     text.push_str(r#""}}"#)?;
     begin_event(text, 'M', track)?;
+    let number = track.number();
     write!(
         text,
         r#","name":"thread_sort_index","args":{{"sort_index":{number}}}}}"#
@@ -52,31 +52,23 @@ pub(crate) fn write_track(text: &mut String, plan: &Plan, track: Track) -> Writt
 
 /// Writes what a tick changes on a track.
 pub(crate) fn write_change(text: &mut String, change: &Change<'_>) -> Written {
-    let (before, now) = slices(change.states);
+    let (before, now) = (slice_of(change.before), slice_of(change.now));
     if before != now {
         end_slice(text, change.track, change.tick, before)?;
         begin_slice(text, change, now)?;
     }
-    match change.states {
-        States::Task(before, now) => {
-            if is_newly_late(before, now) {
-                write_missed_deadline(text, change, now.job)?;
-            }
+    match change.now {
+        Some(State::Task(now)) => {
+            write_missed_deadline(text, change, now)?;
             write_arrow(text, change, now)
         }
         _ => Ok(()),
     }
 }
 
-// Whether the job reaches its deadline, or the task comes to a job that is past its deadline.
-fn is_newly_late(before: Option<TaskStatus>, now: TaskStatus) -> bool {
-    let was_late = matches!(before, Some(before) if before.late && before.job == now.job);
-    now.late && !was_late
-}
-
 /// Ends the slice that is open on a track, if there is one.
 pub(crate) fn write_end(text: &mut String, change: &Change<'_>, time: u32) -> Written {
-    end_slice(text, change.track, time, slices(change.states).0)
+    end_slice(text, change.track, time, slice_of(change.before))
 }
 
 /// Writes the rule that is violated in a tick, and the row that violates it.
@@ -98,41 +90,26 @@ pub(crate) fn write_fault(
     )
 }
 
-// The slices that are open in the tick before and in the tick.
-fn slices(states: States) -> (Option<Slice>, Option<Slice>) {
-    match states {
-        States::Core(before, now) => (action_slice(before), action_slice(now)),
-        States::Task(before, now) => (state_slice(before), state_slice(Some(now))),
-        States::Resource(before, now) => (holder_slice(before), holder_slice(Some(now))),
+// The slice of a state, if it has one.
+fn slice_of(state: Option<State>) -> Option<Slice> {
+    match state? {
+        State::Core(action) if action.job.is_some() => Some(Slice::Action(action)),
+        State::Task(status) if status.state != TaskState::Unreleased => {
+            Some(Slice::State(status.state, status.job))
+        }
+        State::Resource(state) => state.holder.map(Slice::Holder),
+        _ => None,
     }
-}
-
-fn action_slice(action: Option<CoreAction>) -> Option<Slice> {
-    action
-        .filter(|action| action.job.is_some())
-        .map(Slice::Action)
-}
-
-fn state_slice(status: Option<TaskStatus>) -> Option<Slice> {
-    let status = status?;
-    match status.state {
-        TaskState::Unreleased => None,
-        state => Some(Slice::State(state, status.job)),
-    }
-}
-
-fn holder_slice(state: Option<ResourceState>) -> Option<Slice> {
-    Some(Slice::Holder(state?.holder?))
 }
 
 // Begins an event on a track, with its phase. Viewers take thread 0 for no thread.
 fn begin_event(text: &mut String, phase: char, track: Track) -> Written {
-    let process = match track.group {
-        Group::Cores => 100u32,
-        Group::Tasks => 200,
-        Group::Resources => 300,
+    let process = match track {
+        Track::Core(_) => 100u32,
+        Track::Task(_) => 200,
+        Track::Resource(_) => 300,
     };
-    let thread = u64::from(track.number) + 1;
+    let thread = u64::from(track.number()) + 1;
     text.push_str(",\n")?;
     write!(text, r#"{{"ph":"{phase}","pid":{process},"tid":{thread}"#)
 }
@@ -162,14 +139,17 @@ fn begin_slice(text: &mut String, change: &Change<'_>, slice: Option<Slice>) -> 
     let plan = change.plan;
     begin_event_at(text, 'B', change.track, change.tick)?;
     match slice {
-        Slice::Action(action) => {
-            let job = JobName(plan, action.job);
-            let resource = resource_name(plan, action.resource);
-            let action = action.kind.word().as_bstr();
-            write!(
-                text,
-                r#","name":"{job} {action}","args":{{"job":"{job}","action":"{action}","resource":"{resource}"}}}}"#
-            )
+        Slice::Action(
+            CoreAction {
+                kind,
+                job,
+                resource,
+            },
+        ) => {
+            let (job, action) = (JobName(plan, job), kind.word().as_bstr());
+            let resource = resource_name(plan, resource);
+            write!(text, r#","name":"{job} {action}","args":{{"job":"{job}","#)?;
+            write!(text, r#""action":"{action}","resource":"{resource}"}}}}"#)
         }
         Slice::State(state, job) => end_event(text, state_name(state), JobName(plan, Some(job))),
         Slice::Holder(job) => {
@@ -179,19 +159,20 @@ fn begin_slice(text: &mut String, change: &Change<'_>, slice: Option<Slice>) -> 
     }
 }
 
-fn write_missed_deadline(text: &mut String, change: &Change<'_>, job: JobId) -> Written {
+// Writes that the job reaches its deadline, or that the task comes to a job that is past its deadline.
+fn write_missed_deadline(text: &mut String, change: &Change<'_>, now: TaskStatus) -> Written {
+    let was_late =
+        matches!(change.before, Some(State::Task(last)) if last.late && last.job == now.job);
+    if !now.late || was_late {
+        return Ok(());
+    }
     begin_event_at(text, 'i', change.track, change.tick)?;
     text.push_str(r#","s":"t""#)?;
-    end_event(text, "deadline missed", JobName(change.plan, Some(job)))
+    end_event(text, "deadline missed", JobName(change.plan, Some(now.job)))
 }
 
-// Each request has an arrow of its own: its number is made of the task and the units that the task
-// had done.
-fn arrow_id(work: u32, task: u32) -> u64 {
-    u64::from(work) * 64 + u64::from(task)
-}
-
-// Writes the beginning of an arrow at a request that joins a queue, or its end at the grant.
+// Writes the beginning of an arrow at a request that joins a queue, or its end at the grant. Each request has an arrow of
+// its own: its number is made of the task and the units that the task had done.
 fn write_arrow(text: &mut String, change: &Change<'_>, now: TaskStatus) -> Written {
     let Some(row) = now.row else {
         return Ok(());
@@ -201,11 +182,7 @@ fn write_arrow(text: &mut String, change: &Change<'_>, now: TaskStatus) -> Writt
         Kind::Grant => ('f', r#","bp":"e"}"#),
         _ => return Ok(()),
     };
-    let track = Track {
-        group: Group::Cores,
-        number: row.core.0,
-    };
-    let id = arrow_id(now.work, change.track.number);
-    begin_event_at(text, phase, track, change.tick)?;
+    let id = u64::from(now.work) * 64 + u64::from(change.track.number());
+    begin_event_at(text, phase, Track::Core(row.core), change.tick)?;
     write!(text, r#","id":{id},"cat":"request","name":"request"{end}"#)
 }

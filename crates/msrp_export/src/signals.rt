@@ -1,15 +1,15 @@
 //! The states of cores, tasks and resources in a tick and in the tick before.
 ghost use Rattle.std.specs.Prelude.{◌≡◌, ◌<◌, ◌+◌, ◌++◌, ◌∷◌, ◌^◌};
-ghost use Rattle.msrp_plan.specs.Common.{[], List, length, most_resources, IsPlan};
+ghost use Rattle.msrp_plan.specs.Common.{[], List, length, IsPlan};
 ghost use Rattle.msrp_plan.specs.declared.rows.Row.{Row as TraceRow};
 ghost use Rattle.msrp_export.specs.Exports.{TellTick};
 ghost use Rattle.msrp_export.specs.Summaries.{Summarizes};
-ghost use Rattle.msrp_export.specs.Ticks.{state_before, states_of, status_before, status_in, track_count};
+ghost use Rattle.msrp_export.specs.Ticks.{IsTrack, state_before, state_in, state_of};
 
 use crate::summary::{Summary, next};
 use crate::tasks::{TaskStatus, task_status};
-use crate::tracks::{Group, Track};
-use msrp_plan::{CoreId, JobId, Kind, Plan, ResId, Row, TaskId};
+use crate::tracks::Track;
+use msrp_plan::{JobId, Kind, Plan, ResId, Row};
 
 /// What a core does.
 #[derive(Clone, Copy, PartialEq, Eq)]
@@ -26,22 +26,41 @@ pub(crate) struct ResourceState {
     pub(crate) queue_length: u32,
 }
 
-/// The state of a core, a task or a resource in the tick before, if there is one, and in the tick.
-/// A core has none before its first row.
+/// What a core, a task or a resource does in a tick.
 #[derive(Clone, Copy)]
-pub(crate) enum States {
-    Core(Option<CoreAction>, Option<CoreAction>),
-    Task(Option<TaskStatus>, TaskStatus),
-    Resource(Option<ResourceState>, ResourceState),
+pub(crate) enum State {
+    Core(CoreAction),
+    Task(TaskStatus),
+    Resource(ResourceState),
 }
 
-/// What a tick changes on a track.
+// The state on a track in a tick, by the rows before the tick and those up to its end. A core has none before its first row.
+fn state_of(
+    plan: &Plan,
+    before: &Summary,
+    latest: &Summary,
+    tick: u32,
+    track: Track,
+) -> Option<State>
+    requires plan { IsPlan plan.now }
+    requires track { IsTrack plan.now track }
+    ensures { (earlier rows : List TraceRow) → Summarizes before.now earlier → Summarizes latest.now rows → result ≡ state_of plan.now earlier rows tick track }
+{
+    match track {
+        Track::Core(core) => latest.core_action(core).map(State::Core),
+        Track::Task(task) => Some(State::Task(task_status(plan, before, latest, tick, task))),
+        Track::Resource(resource) => Some(State::Resource(latest.resource_state(resource))),
+    }
+}
+
+/// What a tick changes on a track: the state in the tick before, if there is one, and in the tick.
 #[derive(Clone, Copy)]
 pub(crate) struct Change<'a> {
     pub(crate) plan: &'a Plan,
     pub(crate) tick: u32,
     pub(crate) track: Track,
-    pub(crate) states: States,
+    pub(crate) before: Option<State>,
+    pub(crate) now: Option<State>,
 }
 
 /// All states in a tick and in the tick before, from the rows so far.
@@ -90,75 +109,33 @@ impl<'a> Signals<'a> {
         self.tick = next(self.tick);
     }
 
-    fn status_in(&self, task: TaskId) -> TaskStatus
+    /// What the tick changes on a track.
+    pub(crate) fn change(&self, track: Track) -> Change<'a>
         requires plan { IsPlan self.now.plan.now }
-        requires task { task.0 < length self.now.plan.now.tasks }
-        ensures { (rows : List TraceRow) → TellTick self.now rows → result ≡ status_in self.now.plan.now rows self.now.tick task.0 }
+        requires track { IsTrack self.now.plan.now track }
+        ensures before { (rows : List TraceRow) → TellTick self.now rows → result.before ≡ state_before self.now.plan.now rows self.now.tick track }
+        ensures now { (rows : List TraceRow) → TellTick self.now rows → result.now ≡ state_in self.now.plan.now rows self.now.tick track }
     {
-        task_status(self.plan, &self.before, &self.latest, self.tick, task)
+        let (plan, tick) = (self.plan, self.tick);
+        Change {
+            plan,
+            tick,
+            track,
+            before: self.state_before(track),
+            now: state_of(plan, &self.before, &self.latest, tick, track),
+        }
     }
 
-    // What a task did in the tick before, if there is one.
-    fn status_before(&self, task: TaskId) -> Option<TaskStatus>
+    // The state on a track in the tick before, if there is one.
+    fn state_before(&self, track: Track) -> Option<State>
         requires plan { IsPlan self.now.plan.now }
-        requires task { task.0 < length self.now.plan.now.tasks }
-        ensures { (rows : List TraceRow) → TellTick self.now rows → result ≡ status_before self.now.plan.now rows self.now.tick task.0 }
+        requires track { IsTrack self.now.plan.now track }
+        ensures { (rows : List TraceRow) → TellTick self.now rows → result ≡ state_before self.now.plan.now rows self.now.tick track }
     {
         if self.tick == 0 {
             return None;
         }
         let tick = self.tick - 1;
-        Some(task_status(self.plan, &self.earlier, &self.before, tick, task))
-    }
-
-    // The state of a resource in the tick before, if there is one.
-    fn state_before(&self, resource: ResId) -> Option<ResourceState>
-        requires { resource.0 < most_resources }
-        ensures { (rows : List TraceRow) → TellTick self.now rows → result ≡ state_before self.now.plan.now rows self.now.tick resource.0 }
-    {
-        if self.tick == 0 {
-            None
-        } else {
-            Some(self.before.resource_state(resource))
-        }
-    }
-
-    fn states(&self, track: Track) -> States
-        requires plan { IsPlan self.now.plan.now }
-        requires track { track.number < track_count self.now.plan.now track.group }
-        ensures { (rows : List TraceRow) → TellTick self.now rows → result ≡ states_of self.now.plan.now rows self.now.tick track.group track.number }
-    {
-        let number = track.number;
-        match track.group {
-            Group::Cores => {
-                let before = self.before.core_action(CoreId(number));
-                States::Core(before, self.latest.core_action(CoreId(number)))
-            }
-            Group::Tasks => {
-                let before = self.status_before(TaskId(number));
-                States::Task(before, self.status_in(TaskId(number)))
-            }
-            Group::Resources => {
-                let before = self.state_before(ResId(number));
-                States::Resource(before, self.latest.resource_state(ResId(number)))
-            }
-        }
-    }
-
-    /// What the tick changes on a track.
-    pub(crate) fn change(&self, track: Track) -> Change<'a>
-        requires plan { IsPlan self.now.plan.now }
-        requires track { track.number < track_count self.now.plan.now track.group }
-        ensures plan { result.plan ≡ self.now.plan }
-        ensures tick { result.tick ≡ self.now.tick }
-        ensures track { result.track ≡ track }
-        ensures states { (rows : List TraceRow) → TellTick self.now rows → result.states ≡ states_of self.now.plan.now rows self.now.tick track.group track.number }
-    {
-        Change {
-            plan: self.plan,
-            tick: self.tick,
-            track,
-            states: self.states(track),
-        }
+        state_of(self.plan, &self.earlier, &self.before, tick, track)
     }
 }

@@ -1,33 +1,50 @@
 //! Tracks: each core, each task and each resource has one.
-ghost use Rattle.std.specs.Prelude.{◌≡◌};
-ghost use Rattle.msrp_plan.specs.Common.{IsPlan};
-ghost use Rattle.msrp_export.specs.Ticks.{track_count};
+ghost use Rattle.msrp_plan.specs.Common.{IfSome, IsPlan};
+ghost use Rattle.msrp_export.specs.Ticks.{IsTrack};
 
-use msrp_plan::Plan;
+use msrp_plan::{CoreId, Plan, ResId, TaskId};
 
-/// Whose track it is. Perfetto shows the tracks of one group as the threads of a process.
+/// Whose track it is. Perfetto shows those of cores, of tasks and of resources as the threads of a process each.
 #[derive(Clone, Copy)]
-pub(crate) enum Group {
-    Cores,
-    Tasks,
-    Resources,
+pub(crate) enum Track {
+    Core(CoreId),
+    Task(TaskId),
+    Resource(ResId),
 }
 
-/// A track, by the number of its core, task or resource.
-#[derive(Clone, Copy)]
-pub(crate) struct Track {
-    pub(crate) group: Group,
-    pub(crate) number: u32,
+impl Track {
+    pub(crate) fn number(self) -> u32 {
+        match self {
+            Track::Core(core) => core.0,
+            Track::Task(task) => task.0,
+            Track::Resource(resource) => resource.0,
+        }
+    }
 }
 
-/// How many tracks of a group a plan has.
-pub(crate) fn track_count(plan: &Plan, group: Group) -> u32
+/// How many tracks a plan has.
+pub(crate) fn track_count(plan: &Plan) -> u32 {
+    let many = plan.cores().saturating_add(plan.tasks());
+    many.saturating_add(plan.resources())
+}
+
+/// The track of this place: those of cores come first, then those of tasks.
+pub(crate) fn track_at(plan: &Plan, place: u32) -> Option<Track>
     ensures plan { IsPlan plan.now }
-    ensures count { result ≡ track_count plan.now group }
+    ensures track { IfSome result (IsTrack plan.now) }
 {
-    match group {
-        Group::Cores => plan.cores(),
-        Group::Tasks => plan.tasks(),
-        Group::Resources => plan.resources(),
+    let (cores, tasks) = (plan.cores(), plan.tasks());
+    if place < cores {
+        return Some(Track::Core(CoreId(place)));
+    }
+    let place = place - cores;
+    if place < tasks {
+        return Some(Track::Task(TaskId(place)));
+    }
+    let place = place - tasks;
+    if place < plan.resources() {
+        Some(Track::Resource(ResId(place)))
+    } else {
+        None
     }
 }

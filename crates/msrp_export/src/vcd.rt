@@ -3,11 +3,11 @@
 //! GTKWave can draw it as a curve.
 
 use crate::names::{FaultyRow, JobName, resource_name, state_name, task_name};
-use crate::signals::{Change, States};
-use crate::tracks::{Group, Track};
+use crate::signals::{Change, State};
+use crate::tracks::Track;
 use crate::walk::Written;
 use bstr::ByteSlice;
-use msrp_plan::{Plan, ResId, Row, Rule, TaskId};
+use msrp_plan::{Plan, Row, Rule};
 use std::fmt::Write;
 
 /// What comes before the signals of the tracks.
@@ -24,20 +24,20 @@ pub(crate) const END_OF_HEAD: &str = "$upscope $end\n$enddefinitions $end\n";
 
 /// Declares the signals of a track.
 pub(crate) fn write_track(text: &mut String, plan: &Plan, track: Track) -> Written {
-    let number = track.number;
-    match track.group {
-        Group::Cores => {
+    let number = track.number();
+    match track {
+        Track::Core(_) => {
             writeln!(text, "$var string 1 k{number} core_{number}_action $end")?;
             writeln!(text, "$var string 1 j{number} core_{number}_job $end")?;
             writeln!(text, "$var string 1 g{number} core_{number}_resource $end")
         }
-        Group::Tasks => {
-            let name = task_name(plan, TaskId(number));
+        Track::Task(task) => {
+            let name = task_name(plan, task);
             writeln!(text, "$var string 1 t{number} task_{name}_state $end")?;
             writeln!(text, "$var wire 1 l{number} task_{name}_late $end")
         }
-        Group::Resources => {
-            let name = resource_name(plan, Some(ResId(number)));
+        Track::Resource(res) => {
+            let name = resource_name(plan, Some(res));
             writeln!(text, "$var string 1 h{number} resource_{name}_holder $end")?;
             writeln!(
                 text,
@@ -54,37 +54,37 @@ pub(crate) fn begin_tick(text: &mut String, tick: u32) -> Written {
 
 /// Writes the signals of a track whose value isn't that of the tick before.
 pub(crate) fn write_change(text: &mut String, change: &Change<'_>) -> Written {
-    let plan = change.plan;
-    let number = change.track.number;
-    match change.states {
-        States::Core(_, None) => {}
-        States::Core(before, Some(now)) => {
-            if before.map(|before| before.kind) != Some(now.kind) {
+    let (plan, before, number) = (change.plan, change.before, change.track.number());
+    match change.now {
+        Some(State::Core(now)) => {
+            if !matches!(before, Some(State::Core(last)) if last.kind == now.kind) {
                 writeln!(text, "s{} k{number}", now.kind.word().as_bstr())?;
             }
-            if before.map(|before| before.job) != Some(now.job) {
+            if !matches!(before, Some(State::Core(last)) if last.job == now.job) {
                 writeln!(text, "s{} j{number}", JobName(plan, now.job))?;
             }
-            if before.map(|before| before.resource) != Some(now.resource) {
+            if !matches!(before, Some(State::Core(last)) if last.resource == now.resource) {
                 writeln!(text, "s{} g{number}", resource_name(plan, now.resource))?;
             }
         }
-        States::Task(before, now) => {
-            if before.map(|before| before.state) != Some(now.state) {
+        Some(State::Task(now)) => {
+            if !matches!(before, Some(State::Task(last)) if last.state == now.state) {
                 writeln!(text, "s{} t{number}", state_name(now.state))?;
             }
-            if before.map(|before| before.late) != Some(now.late) {
+            if !matches!(before, Some(State::Task(last)) if last.late == now.late) {
                 writeln!(text, "{}l{number}", u32::from(now.late))?;
             }
         }
-        States::Resource(before, now) => {
-            if before.map(|before| before.holder) != Some(now.holder) {
+        Some(State::Resource(now)) => {
+            if !matches!(before, Some(State::Resource(last)) if last.holder == now.holder) {
                 writeln!(text, "s{} h{number}", JobName(plan, now.holder))?;
             }
-            if before.map(|before| before.queue_length) != Some(now.queue_length) {
+            if !matches!(before, Some(State::Resource(last)) if last.queue_length == now.queue_length)
+            {
                 writeln!(text, "r{} q{number}", now.queue_length)?;
             }
         }
+        None => {}
     }
     Ok(())
 }

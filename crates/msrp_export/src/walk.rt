@@ -1,17 +1,14 @@
-//! One walk over all tracks for both formats: their names, what a tick changes, and the end of
-//! their slices.
+//! One walk over all tracks for both formats: their names, what a tick changes, and the end of their slices.
 
 use crate::formats::Format;
-use crate::signals::{Change, Signals};
-use crate::tracks::{Group, Track, track_count};
+use crate::signals::Signals;
+use crate::tracks::{track_at, track_count};
 use crate::{perfetto, vcd};
 use msrp_plan::Plan;
 use std::alloc::AllocError;
 
 /// What a function of text answers: an error where no memory is left for the text.
 pub(crate) type Written = Result<(), AllocError>;
-
-const GROUPS: [Group; 3] = [Group::Cores, Group::Tasks, Group::Resources];
 
 /// Begins a tick. In JSON each event has its time.
 pub(crate) fn begin_tick(text: &mut String, format: Format, tick: u32) -> Written {
@@ -24,23 +21,12 @@ pub(crate) fn begin_tick(text: &mut String, format: Format, tick: u32) -> Writte
 /// Writes a tick, and what it changes.
 pub(crate) fn write_tick(text: &mut String, format: Format, signals: &Signals<'_>) -> Written {
     begin_tick(text, format, signals.tick)?;
-    for group in GROUPS {
-        write_changes(text, format, signals, group)?;
-    }
-    Ok(())
-}
-
-fn write_changes(
-    text: &mut String,
-    format: Format,
-    signals: &Signals<'_>,
-    group: Group,
-) -> Written {
-    for number in 0..track_count(signals.plan, group) {
-        let change = signals.change(Track { group, number });
-        match format {
-            Format::Vcd => vcd::write_change(text, &change)?,
-            Format::Perfetto => perfetto::write_change(text, &change)?,
+    for place in 0..track_count(signals.plan) {
+        if let Some(track) = track_at(signals.plan, place) {
+            match format {
+                Format::Vcd => vcd::write_change(text, &signals.change(track))?,
+                Format::Perfetto => perfetto::write_change(text, &signals.change(track))?,
+            }
         }
     }
     Ok(())
@@ -53,21 +39,15 @@ pub(crate) fn write_head(text: &mut String, format: Format, plan: &Plan) -> Writ
         Format::Perfetto => (perfetto::HEAD, ""),
     };
     text.push_str(head)?;
-    for group in GROUPS {
-        write_tracks(text, format, plan, group)?;
-    }
-    text.push_str(end)
-}
-
-fn write_tracks(text: &mut String, format: Format, plan: &Plan, group: Group) -> Written {
-    for number in 0..track_count(plan, group) {
-        let track = Track { group, number };
-        match format {
-            Format::Vcd => vcd::write_track(text, plan, track)?,
-            Format::Perfetto => perfetto::write_track(text, plan, track)?,
+    for place in 0..track_count(plan) {
+        if let Some(track) = track_at(plan, place) {
+            match format {
+                Format::Vcd => vcd::write_track(text, plan, track)?,
+                Format::Perfetto => perfetto::write_track(text, plan, track)?,
+            }
         }
     }
-    Ok(())
+    text.push_str(end)
 }
 
 /// Writes the end, at a time: in JSON each slice that is open ends.
@@ -77,21 +57,13 @@ pub(crate) fn write_end(
     signals: &Signals<'_>,
     time: u32,
 ) -> Written {
-    match format {
-        Format::Vcd => vcd::begin_tick(text, time),
-        Format::Perfetto => {
-            for group in GROUPS {
-                end_slices(text, signals, group, time)?;
-            }
-            text.push_str(perfetto::END)
+    if format == Format::Vcd {
+        return vcd::begin_tick(text, time);
+    }
+    for place in 0..track_count(signals.plan) {
+        if let Some(track) = track_at(signals.plan, place) {
+            perfetto::write_end(text, &signals.change(track), time)?;
         }
     }
-}
-
-fn end_slices(text: &mut String, signals: &Signals<'_>, group: Group, time: u32) -> Written {
-    for number in 0..track_count(signals.plan, group) {
-        let change = signals.change(Track { group, number });
-        perfetto::write_end(text, &change, time)?;
-    }
-    Ok(())
+    text.push_str(perfetto::END)
 }
