@@ -8,8 +8,8 @@ use Rattle.msrp_trace.proofs.ReadThrough.{IsReadTo}
 use Rattle.msrp_why.specs.Noted.{AreNoted}
 use Rattle.msrp_view_engine.proofs.why.judge_rows.Given as goal
 
-abbrev pub invariant-loop-row : goal.invariant-loop-row
-invariant-loop-row g l =
+abbrev pub invariant-loop-notes : goal.invariant-loop-notes
+invariant-loop-notes g l =
     (rows : List Row)
     × (l.auditor.plan ≡ l.plan)
     × HasFed l.auditor rows
@@ -18,5 +18,5 @@ invariant-loop-row g l =
     × AreNoted l.plan rows l.notes
     × ((bytes : List ℕ) → HasReadIn g.T.Read.remaining bytes l.fn.rows → HasReadIn g.T.Read.remaining bytes l.rows)
 
-abbrev pub decreases-loop-row : goal.decreases-loop-row
-decreases-loop-row g l = l.auditor.plan.cores * l.auditor.plan.ticks - l.auditor.fed
+abbrev pub decreases-loop-notes : goal.decreases-loop-notes
+decreases-loop-notes g l = l.auditor.plan.cores * l.auditor.plan.ticks - l.auditor.fed
