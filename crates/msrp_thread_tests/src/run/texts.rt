@@ -26,9 +26,9 @@ const ONE_FIRST: &[u8] =
 const ONE_FIRST_WITHOUT_AHEADS: &[u8] =
     b"msrp-trace,1,2,6\n0,1,take,b,0,g\n0,0,queue,a,0,g\n1,1,run,b,0,-\n1,0,spin,a,0,g\n";
 
-// A job on each of eight cores, all the time of the longest run.
+// A job on each of eight cores, all the time of a long run.
 pub const LONG_PLAN: &[u8] =
-    b"msrp,1\ncores,8\nticks,20000\ntask,a,0,20,20,0\nop,run,20\ntask,b,1,20,20,0\nop,run,20\ntask,c,2,20,20,0\nop,run,20\ntask,d,3,20,20,0\nop,run,20\ntask,e,4,20,20,0\nop,run,20\ntask,f,5,20,20,0\nop,run,20\ntask,g,6,20,20,0\nop,run,20\ntask,h,7,20,20,0\nop,run,20\n";
+    b"msrp,1\ncores,8\nticks,2000\ntask,a,0,20,20,0\nop,run,20\ntask,b,1,20,20,0\nop,run,20\ntask,c,2,20,20,0\nop,run,20\ntask,d,3,20,20,0\nop,run,20\ntask,e,4,20,20,0\nop,run,20\ntask,f,5,20,20,0\nop,run,20\ntask,g,6,20,20,0\nop,run,20\ntask,h,7,20,20,0\nop,run,20\n";
 
 // The rows that a reader has left.
 fn rows_left<R: Read>(
@@ -110,6 +110,6 @@ fn each_turn_of_a_long_text_is_made_by_the_stage(rt: HostRuntime) {
         let mut out = Sink::new(&mut written);
         let answer = run_text_by(&rt, rt.alloc(), &mut source, &mut out, version, &stage, &HireAll);
         assert!(rt; answer == Ok(0));
-        assert_eq!(rt; stage.turns(), 160_000);
+        assert_eq!(rt; stage.turns(), 16_000);
     }
 }
