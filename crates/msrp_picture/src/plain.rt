@@ -124,6 +124,16 @@ fn fault_sign(shown: Shown, row: Row) -> Option<u8> {
     }
 }
 
+// Whether the row that violates a rule is of this core, in a tick that is drawn.
+fn is_marked(violation: Option<Violation>, core: CoreId, window: Window) -> bool {
+    match violation {
+        Some(Violation { row, .. }) => {
+            row.core == core && window.from <= row.tick && row.tick < window.to
+        }
+        None => false,
+    }
+}
+
 impl<'a> Lines<'a> {
     // Cells with a dot for each tick before this one.
     fn dots(&self, end: u64) -> Result<Vec<u8>, Memory> {
@@ -185,7 +195,7 @@ impl<'a> Lines<'a> {
         let ticks = of_core.count() as u64;
         self.add(&format_args!("core {}", core.0), Shown::Jobs(core), ticks)?;
         self.add(&"", Shown::Deeds(core), ticks)?;
-        if matches!(self.shapes.violation, Some(violation) if violation.row.core == core) {
+        if is_marked(self.shapes.violation, core, self.scene.window) {
             self.add(&"", Shown::Marks(core), 0)?;
         }
         self.add_events(core)
