@@ -175,11 +175,7 @@ fn audit<'a>(alloc: Global) -> Result<Command<'a>, AllocError>
     let made = judge(alloc, "audit", "judge a trace: good, or its first fault");
     with_arg(
         made,
-        flag(
-            alloc,
-            PARALLEL,
-            "judge in a second, independent way",
-        ),
+        flag(alloc, PARALLEL, "judge in a second, independent way"),
     )
 }
 

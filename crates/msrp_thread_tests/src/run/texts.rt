@@ -93,7 +93,15 @@ fn a_text_without_aheads_is_of_the_turns(rt: HostRuntime) -> Result<(), Fail> {
     let mut source = Source::new(PLAN);
     let mut out = Sink::new(&mut written);
     let version = TextVersion::V1;
-    let answer = run_text_by(&rt, rt.alloc(), &mut source, &mut out, version, &stage, &HireAll);
+    let answer = run_text_by(
+        &rt,
+        rt.alloc(),
+        &mut source,
+        &mut out,
+        version,
+        &stage,
+        &HireAll,
+    );
     assert!(rt; answer == Ok(0));
     assert!(rt; stage.followed());
     assert!(rt; written.as_slice().starts_with(ONE_FIRST_WITHOUT_AHEADS));
@@ -108,7 +116,15 @@ fn each_turn_of_a_long_text_is_made_by_the_stage(rt: HostRuntime) {
         let mut written = Vec::new(rt.alloc());
         let mut source = Source::new(LONG_PLAN);
         let mut out = Sink::new(&mut written);
-        let answer = run_text_by(&rt, rt.alloc(), &mut source, &mut out, version, &stage, &HireAll);
+        let answer = run_text_by(
+            &rt,
+            rt.alloc(),
+            &mut source,
+            &mut out,
+            version,
+            &stage,
+            &HireAll,
+        );
         assert!(rt; answer == Ok(0));
         assert_eq!(rt; stage.turns(), 16_000);
     }

@@ -16,5 +16,5 @@ returns g c =
     let run = c.in_ok-logs.ensures in
     let trace = c.in_ok-trace.ensures in
     let merged = subst (λ (l : List LogModel). IsMergeOf plan l (entries_at board.books) rows) c.deref.ensures.value
-        (record { run = trace.run; logs_of = trace.logs; history = trace.history; aheads = trace.aheads; order = trace.order }) in
+    (record { run = trace.run; logs_of = trace.logs; history = trace.history; aheads = trace.aheads; order = trace.order }) in
     run_of_board plan c.in_ok-logs.logs.items board rows run.plan run.logs run.aheads run.board run.opened run.done merged
