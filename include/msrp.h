@@ -11,8 +11,10 @@
  * - No call is made in the forked child of a process with threads.
  * - The library is built for Linux on x86-64, for processors of the level x86-64-v2.
  *
- * No call keeps anything, prints, ends the process or starts a thread; each may be made by several threads at once. Memory comes
- * from malloc, and is given back before the call returns. */
+ * No call prints, ends the process, starts a thread or waits for one. Memory comes from malloc.
+ *
+ * All calls but those of an auditor keep nothing: memory is given back before the call returns, and
+ * several threads may make them at once. An auditor lasts from call to call. */
 #ifndef MSRP_H
 #define MSRP_H
 
@@ -109,6 +111,35 @@ uint32_t msrp_why(const uint8_t *plan, size_t plan_len, const uint8_t *trace, si
 
 /* The words on a plan: why it is refused, or what is odd in it. A refused plan has a text too, and the answer is MSRP_REFUSED. */
 uint32_t msrp_why_plan(const uint8_t *plan, size_t plan_len, uint8_t *text, size_t text_len, size_t *needed, struct msrp_found *found);
+
+/* An auditor that is fed row by row. The handle is one pointer, which only these calls follow.
+ *
+ * - It is {NULL} before msrp_auditor_new, and after msrp_auditor_free again.
+ * - One call at a time has it. It may go to another thread, if that is ordered by a lock, a
+ *   thread's start or join, or a sequentially consistent atomic. No copy of it is used as well.
+ * - Calls with a null handle answer MSRP_USAGE, and change nothing.
+ * - The plan stays in memory until the process ends, also after msrp_auditor_free. */
+struct msrp_auditor {
+    void *at;
+};
+
+/* Makes an auditor of a plan, and takes all memory that feed and end need. If the answer isn't
+ * MSRP_GOOD the handle stays null. If the handle isn't null the answer is MSRP_USAGE, and the
+ * handle stays as it is. */
+uint32_t msrp_auditor_new(const uint8_t *plan, size_t plan_len, struct msrp_auditor *auditor, struct msrp_found *found);
+
+/* The next row, and the verdict on all rows so far, which is that of msrp_audit_rows with so_far.
+ * After a fault or a refusal the answer stays. */
+uint32_t msrp_auditor_feed(struct msrp_auditor *auditor, const struct msrp_row *row, struct msrp_found *found);
+
+/* The verdict on the rows so far as a whole trace. Rows may be fed after it. */
+uint32_t msrp_auditor_end(struct msrp_auditor *auditor, struct msrp_found *found);
+
+/* Begins another trace of the same plan. It takes memory: on MSRP_MEMORY nothing changes. */
+uint32_t msrp_auditor_again(struct msrp_auditor *auditor);
+
+/* Gives the auditor's memory back, but for the plan. A null handle is left as it is. */
+void msrp_auditor_free(struct msrp_auditor *auditor);
 
 #ifdef __cplusplus
 }

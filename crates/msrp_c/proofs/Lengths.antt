@@ -17,7 +17,7 @@ use Rattle.msrp_view_engine.specs.declared.words.Words.{Words}
 use Rattle.msrp_c.specs.declared.answers.MsrpFound.{MsrpFound}
 
 -- ---- status 5
-not-five : (what : Result (Result ⊤ Fault) CliFault) → status_told (unfailed what) ≡ 5 → ⊥
+pub not-five : (what : Result (Result ⊤ Fault) CliFault) → status_told (unfailed what) ≡ 5 → ⊥
 not-five (Ok (Ok good)) e = absurd (cc)
 not-five (Ok (Err fault)) e = absurd (cc)
 not-five (Err (Plan c n)) e = absurd (cc)

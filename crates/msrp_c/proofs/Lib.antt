@@ -1,2 +1,6 @@
 mod Lengths
 mod TurnByTurn
+mod HandleValues
+mod Handles
+mod Streaming
+mod Handing

@@ -4,3 +4,6 @@ pub mod Texts
 pub mod Turns
 pub mod Pictures
 pub mod Whys
+pub mod Held
+pub mod Loading
+pub mod Feeding

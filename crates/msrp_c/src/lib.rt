@@ -6,7 +6,13 @@
 ghost use Rattle.std.specs.Prelude.{◌≡◌};
 
 mod answers;
+mod auditor;
 mod audits;
+mod feeding;
+mod handle;
+mod held;
+mod loading;
+mod loose;
 mod orders;
 mod pictures;
 mod plans;
@@ -14,7 +20,11 @@ mod turns;
 mod whys;
 
 pub use answers::MsrpFound;
+pub use auditor::{
+    msrp_auditor_again, msrp_auditor_end, msrp_auditor_feed, msrp_auditor_free, msrp_auditor_new,
+};
 pub use audits::{msrp_audit, msrp_audit_rows, msrp_report};
+pub use handle::MsrpAuditor;
 pub use pictures::msrp_view;
 pub use plans::{msrp_check, msrp_plan_text, msrp_sim};
 pub use turns::MsrpRow;

@@ -116,8 +116,8 @@ fn shaped_row(turn: &MsrpRow, kind: Kind) -> Option<Row>
     })
 }
 
-// The row of these numbers, or why they are none.
-fn row_of(plan: &Plan, turn: &MsrpRow) -> Result<Row, TraceFault>
+/// The row of these numbers, or why they are none.
+pub(crate) fn row_of(plan: &Plan, turn: &MsrpRow) -> Result<Row, TraceFault>
     ensures { result ≡ row_of plan.now turn.now }
 {
     let Some(kind) = kind_numbered(turn.kind) else {
