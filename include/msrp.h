@@ -13,8 +13,8 @@
  *
  * No call prints, ends the process, starts a thread or waits for one. Memory comes from malloc.
  *
- * All calls but those of an auditor keep nothing: memory is given back before the call returns, and
- * several threads may make them at once. An auditor lasts from call to call. */
+ * All calls but those on a handle keep nothing: memory is given back before the call returns, and
+ * several threads may make them at once. What a handle holds lasts from call to call. */
 #ifndef MSRP_H
 #define MSRP_H
 
@@ -29,7 +29,7 @@ extern "C" {
 /* The version of these calls. msrp_version() answers that of the library which was linked. */
 #define MSRP_VERSION 1
 
-/* What a call answers: the exit status of the program msrp, and MSRP_ROOM. */
+/* What a call answers: up to 5 the exit status of the program msrp. */
 enum msrp_status {
     MSRP_GOOD = 0,     /* what was asked for */
     MSRP_FAULT = 1,    /* the trace is no legal run: row, rule */
@@ -37,7 +37,9 @@ enum msrp_status {
     MSRP_USAGE = 3,    /* a number is none of those listed, or asks for what the plan doesn't have */
     MSRP_MEMORY = 4,   /* memory was refused */
     MSRP_TOO_LONG = 5, /* a text has 16 MiB or more, whatever else there is to tell */
-    MSRP_ROOM = 6      /* the buffer is too short: it is as before, and needed tells the length */
+    MSRP_ROOM = 6,     /* the buffer is too short: it is as before, and needed tells the length */
+    MSRP_WAIT = 7,     /* not yet: nothing has changed */
+    MSRP_DONE = 8      /* nothing is left */
 };
 
 /* What was found. What doesn't apply is 0. With MSRP_ROOM it is what it would be in a longer buffer. */
@@ -112,13 +114,15 @@ uint32_t msrp_why(const uint8_t *plan, size_t plan_len, const uint8_t *trace, si
 /* The words on a plan: why it is refused, or what is odd in it. A refused plan has a text too, and the answer is MSRP_REFUSED. */
 uint32_t msrp_why_plan(const uint8_t *plan, size_t plan_len, uint8_t *text, size_t text_len, size_t *needed, struct msrp_found *found);
 
-/* An auditor that is fed row by row. The handle is one pointer, which only these calls follow.
+/* A handle is one pointer, which only these calls follow: to an auditor, a run or a core of a run.
  *
- * - It is {NULL} before msrp_auditor_new, and after msrp_auditor_free again.
+ * - It is {NULL} before the call that makes it, and after the one that gives it back.
  * - One call at a time has it. It may go to another thread, if that is ordered by a lock, a
  *   thread's start or join, or a sequentially consistent atomic. No copy of it is used as well.
- * - Calls with a null handle answer MSRP_USAGE, and change nothing.
- * - The plan stays in memory until the process ends, also after msrp_auditor_free. */
+ * - Calls with a null handle, or one of another kind, answer MSRP_USAGE and change nothing.
+ * - The plan stays in memory until the process ends, also after the handle is freed. */
+
+/* ---- An auditor that is fed row by row. */
 struct msrp_auditor {
     void *at;
 };
@@ -140,6 +144,60 @@ uint32_t msrp_auditor_again(struct msrp_auditor *auditor);
 
 /* Gives the auditor's memory back, but for the plan. A null handle is left as it is. */
 void msrp_auditor_free(struct msrp_auditor *auditor);
+
+/* ---- A run of a plan on threads of the caller's, with its own priorities, processors and stacks.
+ *
+ * The run hands out a core for each thread. The thread has its core's turns in a loop: it calls
+ * msrp_core_turn, does the work of the row's job, and calls msrp_core_arrive. Once all threads have
+ * ended, the cores are joined, and the trace can be had.
+ *
+ * No call waits or takes a lock. If a core isn't let into its tick yet the answer is MSRP_WAIT: the
+ * caller waits as it likes, and calls again. All memory is taken by msrp_run_new, except for that of
+ * msrp_run_text. */
+struct msrp_run {
+    void *at;
+};
+
+struct msrp_core {
+    void *at;
+};
+
+/* Makes a run of a plan in a null handle. If the answer isn't MSRP_GOOD the handle stays null. If
+ * the handle isn't null the answer is MSRP_USAGE, and the handle stays as it is. */
+uint32_t msrp_run_new(const uint8_t *plan, size_t plan_len, struct msrp_run *run, struct msrp_found *found);
+
+/* Hands out the next core into a null handle, cores rising; MSRP_DONE once all are out. The last one
+ * lets all cores into tick 0. */
+uint32_t msrp_run_core(struct msrp_run *run, struct msrp_core *core);
+
+/* The core's turn, if it is let into its tick, which it is once every core has arrived from the tick
+ * before. MSRP_GOOD: it is in its turn until it arrives, and row says what it does. MSRP_WAIT: it
+ * isn't let in yet. MSRP_DONE: it has no tick left. MSRP_USAGE: it is in a turn already. If the
+ * answer isn't MSRP_GOOD row and place are as before.
+ *
+ * place tells the order of the steps on a global resource: an auditor may be fed the rows of a tick
+ * by resource and place, a MSRP_SPIN or MSRP_GRANT before the other row of the same place. It is
+ * MSRP_NONE for the other rows, which may be fed in any order. */
+uint32_t msrp_core_turn(struct msrp_core *core, struct msrp_row *row, uint32_t *place);
+
+/* Ends the core's turn. MSRP_USAGE if it is in none. */
+uint32_t msrp_core_arrive(struct msrp_core *core);
+
+/* Gives a core back to its run, cores rising; the handle is null then. MSRP_USAGE if a core isn't
+ * handed out yet, or this one isn't the next or has a tick left: nothing changes. A core of another
+ * run is never given. */
+uint32_t msrp_run_join(struct msrp_run *run, struct msrp_core *core);
+
+/* The text of the run's trace, in version 1 or 2: a legal run of the plan, in which the rows of each
+ * core are those of its turns. MSRP_USAGE before all cores are joined. It fits or doesn't, as with
+ * the texts above. It takes memory: on MSRP_MEMORY the run is as before. */
+uint32_t msrp_run_text(struct msrp_run *run, uint32_t version, uint8_t *text, size_t text_len, size_t *needed);
+
+/* Gives up a core that isn't to be joined: its run has no trace then. A null handle is left as it is. */
+void msrp_core_free(struct msrp_core *core);
+
+/* Gives the run's memory back, but for the plan. A null handle is left as it is. */
+void msrp_run_free(struct msrp_run *run);
 
 #ifdef __cplusplus
 }

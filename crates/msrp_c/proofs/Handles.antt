@@ -27,11 +27,11 @@ use Rattle.msrp_c.specs.Held.{holds, is_null}
 use Rattle.msrp_c.proofs.HandleValues.{both}
 use Rattle.std.specs.contracts.alloc.Global as heap
 use Rattle.std.proofs.alloc.Global.TheLaws as heap_laws
-use Rattle.msrp_c.specs.contracts.held.FedAuditor as auditor
-use Rattle.msrp_c.specs.contracts.handle.MsrpAuditor as handle
+use Rattle.msrp_c.specs.contracts.content.Content as content
+use Rattle.msrp_c.specs.contracts.handle.MsrpHandle as handle
 
 abbrev pub R : RattleType
-R = auditor.the_row
+R = content.the_row
 
 abbrev pub Z : RattleType
 Z = heap.the_row

@@ -4,3 +4,4 @@ mod HandleValues
 mod Handles
 mod Streaming
 mod Handing
+mod Turning

@@ -1,18 +1,14 @@
 -- An auditor that is fed row by row.
-use Rattle.std.specs.Prelude.{◌≡◌, ◌↔◌, ◌++◌, ◌∷◌, ◌+◌, ◌*◌, ◌≤◌}
-use Rattle.msrp_plan.specs.Common.{[], ℕ, Bool, List, Option, Some, None, map, length, true, false, IsSomeAnd, ⊤, Result, PlanModel, fault_in}
+use Rattle.std.specs.Prelude.{◌≡◌, ◌++◌, ◌∷◌, ◌+◌, ◌*◌, ◌≤◌}
+use Rattle.msrp_plan.specs.Common.{[], ℕ, Bool, List, Option, None, map, length, true, false, IsSomeAnd, ⊤, Result, PlanModel, fault_in}
 use Rattle.std.specs.declared.result.Result.TheVariants.{Ok, Err}
 use Rattle.msrp_audit.specs.Audits.{AuditorModel, HasFed}
-use Rattle.msrp_faults.specs.Outcomes.{fault_of}
 use Rattle.msrp_faults.specs.declared.faults.CliFault.{CliFault}
-use Rattle.msrp_faults.specs.declared.faults.CliFault.TheVariants.{Usage}
 use Rattle.msrp_plan.specs.declared.faults.Fault.{Fault}
 use Rattle.msrp_plan.specs.declared.rows.Row.{Row}
-use Rattle.msrp_text.specs.declared.reading.TextError.{TextError}
-use Rattle.msrp_engine.specs.Answered.{OrUnread}
-use Rattle.msrp_c.specs.Answers.{Tells, told_as}
+use Rattle.msrp_c.specs.Contents.{auditor_in}
 use Rattle.msrp_c.specs.Turns.{finding_of_turns, row_of}
-use Rattle.msrp_c.specs.declared.answers.MsrpFound.{MsrpFound}
+use Rattle.msrp_c.specs.declared.content.Content.{Content}
 use Rattle.msrp_c.specs.declared.held.FedAuditor.{FedAuditor}
 use Rattle.msrp_c.specs.declared.turns.MsrpRow.{MsrpRow}
 
@@ -58,35 +54,7 @@ pub record IsFed (plan : PlanModel) (turns : List MsrpRow) (a : FedAuditor) : Ty
   pub is : IsFound plan turns a.auditor a.verdict
   pub count : a.verdict ≡ Ok (Ok tt) → a.judged ≡ length turns
 
--- the plan is accepted, and the auditor was fed nothing; or this is why there is none
-abbrev pub IsOpened : Result PlanModel TextError → Result FedAuditor CliFault → Type 0
-IsOpened (Ok plan) (Ok a) = IsFed plan [] a
-IsOpened (Err error) (Err fault) = fault ≡ fault_of error
-IsOpened (Ok plan) (Err fault) = ⊥
-IsOpened (Err error) (Ok a) = ⊥
-
 -- ---- a handle
--- wrong use is told, and changes nothing
-pub record IsMisuse (old new : Option FedAuditor) (found : MsrpFound) (status : ℕ) : Type 0 where
-  pub same : new ≡ old
-  pub tells : Tells (Err Usage) found status
-
--- the handle holds an auditor of the accepted plan that was fed nothing; or this is why it holds none
-abbrev pub IsHeld : Result PlanModel TextError → Option FedAuditor → Finding → Type 0
-IsHeld (Ok plan) held (Ok found) = IsSomeAnd held (IsFed plan []) × (found ≡ Ok tt)
-IsHeld (Err error) held (Err fault) = fault ≡ fault_of error
-IsHeld (Ok plan) held (Err fault) = ⊥
-IsHeld (Err error) held (Ok found) = ⊥
-
--- an auditor was made in a handle that held none, with status 5 exactly if the plan's text is too long;
--- it holds none if the status isn't 0
-pub record OpensNew (long : Bool) (expected : Result PlanModel TextError) (held : Option FedAuditor) (found : MsrpFound) (status : ℕ) : Type 0 where
-  pub what : Finding
-  pub is : long ≡ false → OrUnread what (IsHeld expected held what)
-  pub tells : Tells (told_as long what) found status
-  pub none : (status ≡ 0 → ⊥) → held ≡ None
-  pub too_long : (status ≡ 5) ↔ (long ≡ true)
-
-abbrev pub Opens : Bool → Result PlanModel TextError → Option FedAuditor → Option FedAuditor → MsrpFound → ℕ → Type 0
-Opens long expected None new found status = OpensNew long expected new found status
-Opens long expected (Some fed) new found status = IsMisuse (Some fed) new found status
+-- it holds an auditor of the plan that was fed these turns
+abbrev pub HoldsFed : PlanModel → List MsrpRow → Option Content → Type 0
+HoldsFed plan turns held = IsSomeAnd (auditor_in held) (IsFed plan turns)

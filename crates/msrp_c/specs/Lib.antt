@@ -5,5 +5,9 @@ pub mod Turns
 pub mod Pictures
 pub mod Whys
 pub mod Held
+pub mod Contents
+pub mod RowNumbers
+pub mod Opening
+pub mod Hosting
 pub mod Loading
 pub mod Feeding

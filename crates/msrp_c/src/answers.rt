@@ -1,6 +1,6 @@
 //! What a call tells: its status, the numbers of what was found, and a text.
-ghost use Rattle.std.specs.Prelude.{◌≡◌, ◌≤◌, ◌<◌, ◌++◌, ◌||◌};
-ghost use Rattle.msrp_plan.specs.Common.{length, drop, true, false};
+ghost use Rattle.std.specs.Prelude.{◌≡◌, ◌<◌, ◌||◌};
+ghost use Rattle.msrp_plan.specs.Common.{true, false};
 ghost use Rattle.msrp_c.specs.Answers.{Hands, HandsOver, Puts, Tells, is_long, numbers_of, or_memory, rule_number, status_told, unfailed};
 
 use msrp_audit::{Fault, Rule};
@@ -23,8 +23,8 @@ pub struct MsrpFound {
     pub number: u32,
 }
 
-// Nothing was found.
-const NOTHING: MsrpFound = MsrpFound {
+/// Nothing was found.
+pub(crate) const NOTHING: MsrpFound = MsrpFound {
     row: 0,
     rule: 0,
     plan_code: 0,
@@ -32,8 +32,23 @@ const NOTHING: MsrpFound = MsrpFound {
     number: 0,
 };
 
-// The status where a text doesn't fit into the buffer.
+/// What was asked for was done.
+pub(crate) const GOOD: u32 = 0;
+
+/// The call was wrong.
+pub(crate) const USAGE: u32 = 3;
+
+/// Memory was refused.
+pub(crate) const MEMORY: u32 = 4;
+
+// A text doesn't fit into the buffer.
 const ROOM: u32 = 6;
+
+/// It is too early.
+pub(crate) const WAIT: u32 = 7;
+
+/// Nothing is left.
+pub(crate) const DONE: u32 = 8;
 
 // The rules are declared by their numbers.
 fn rule_number(rule: Rule) -> u32

@@ -1,149 +1,156 @@
 //! The calls of an auditor that is fed row by row.
 ghost use Rattle.std.specs.Prelude.{◌≡◌, ◌≢◌, ◌⊎◌, ◌++◌, ◌∷◌};
-ghost use Rattle.msrp_plan.specs.Common.{[], ℕ, List, Some, None, IfErr, IsSomeAnd, IsSome, PlanModel};
+ghost use Rattle.msrp_plan.specs.Common.{[], List, Some, None, IsSome, PlanModel};
 ghost use Rattle.msrp_engine.specs.Answered.{OrUnread};
+ghost use Rattle.msrp_faults.specs.declared.faults.CliFault.{CliFault};
 ghost use Rattle.msrp_text.specs.Reading.{csv_records, plan_of};
 ghost use Rattle.msrp_c.specs.Answers.{Tells, is_long};
-ghost use Rattle.msrp_c.specs.Feeding.{IsFed, IsHeld, IsMisuse, IsOpened, Opens, found_so_far, found_whole};
+ghost use Rattle.msrp_c.specs.Contents.{auditor_in};
+ghost use Rattle.msrp_c.specs.Feeding.{HoldsFed, found_so_far, found_whole};
+ghost use Rattle.msrp_c.specs.Opening.{IsMisuse, IsOpened, Opens};
 ghost use Rattle.msrp_c.specs.declared.turns.MsrpRow.{MsrpRow as Numbers};
-ghost use Rattle.std.specs.Option.{is_some};
 
-use crate::answers::{MsrpFound, is_long, tell, unfailed};
-use crate::handle::MsrpAuditor;
+use crate::answers::{GOOD, MEMORY, MsrpFound, USAGE, is_long, tell, unfailed};
+use crate::content::Content;
+use crate::handle::MsrpHandle;
 use crate::held::FedAuditor;
 use crate::loading::load;
+use crate::numbers::numbers_of_row;
+use crate::opening::open;
 use crate::turns::MsrpRow;
 use msrp_audit::Fault;
 use msrp_engine::CliFault;
 use msrp_plan::Memory;
 use std::alloc::Global;
 
-// The statuses of wrong use, and of refused memory.
-const USAGE: u32 = 3;
-
-const MEMORY: u32 = 4;
-
 // An auditor of the plan of a text, before the first row.
-fn opened(alloc: Global, plan: &[u8]) -> Result<FedAuditor, CliFault>
-    ensures { OrUnread result (IsOpened (plan_of (csv_records plan.now)) result) }
+fn opened(alloc: Global, plan: &[u8]) -> Result<Content, CliFault>
+    ensures { OrUnread result (IsOpened (λ plan held. HoldsFed plan [] held) (plan_of (csv_records plan.now)) result) }
 {
     let loaded = load(alloc, plan)?;
-    Ok(FedAuditor::new(alloc, loaded)?)
+    let fed = FedAuditor::new(alloc, loaded)?;
+    Ok(Content::Auditor(fed))
 }
 
-// Whether the handle holds an auditor.
-fn is_used(handle: &mut MsrpAuditor, alloc: Global) -> bool
-    ensures used { result ≡ is_some handle.old.value }
-    ensures same { handle.new.value ≡ handle.old.value }
-{
-    match handle.take(alloc) {
-        Some(fed) => {
-            *handle = MsrpAuditor::held(fed);
-            true
-        }
-        None => false,
-    }
-}
-
-// An auditor of the plan of a text goes into a handle that holds none.
-fn open(
-    alloc: Global,
-    plan: &[u8],
-    auditor: &mut MsrpAuditor,
-) -> Result<Result<(), Fault>, CliFault>
-    requires { auditor.old.value ≡ None }
-    ensures held { OrUnread result (IsHeld (plan_of (csv_records plan.now)) auditor.new.value result) }
-    ensures none { IfErr result (λ _. auditor.new.value ≡ None) }
-{
-    let fed = opened(alloc, plan)?;
-    let Ok(fed) = Box::new(alloc, fed) else {
-        return Err(CliFault::Memory);
-    };
-    *auditor = MsrpAuditor::held(fed);
-    Ok(Ok(()))
-}
-
-/// Makes an auditor of a plan in a handle that holds none. If the answer isn't 0 it still holds none.
+/// Makes an auditor of a plan in a handle that holds nothing. If the answer isn't 0 it still holds
+/// nothing.
 #[unsafe(no_mangle)]
 pub extern "C" fn msrp_auditor_new(
     alloc: Global,
     plan: &[u8],
-    auditor: &mut MsrpAuditor,
+    auditor: &mut MsrpHandle,
     found: &mut MsrpFound,
 ) -> u32
-    ensures { Opens (is_long plan.now) (plan_of (csv_records plan.now)) auditor.old.value auditor.new.value found.new result }
+    ensures { Opens (λ plan held. HoldsFed plan [] held) (is_long plan.now) (plan_of (csv_records plan.now)) auditor.old.value auditor.new.value found.new result }
 {
-    if is_used(auditor, alloc) {
+    if auditor.is_used(alloc) {
         return tell(Err(CliFault::Usage), found);
     }
     if is_long(plan) {
         return tell(Err(CliFault::Read), found);
     }
-    let what = open(alloc, plan, auditor);
+    let made = opened(alloc, plan);
+    let what = open(alloc, made, auditor);
     tell(unfailed(what), found)
+}
+
+// The next row of the auditor that a handle holds.
+fn feed(content: &mut Content, row: &MsrpRow) -> Result<Result<(), Fault>, CliFault>
+    ensures fed { (plan : PlanModel) (turns : List Numbers) → HoldsFed plan turns (Some content.old) → HoldsFed plan (turns ++ row.now ∷ []) (Some content.new) }
+    ensures found { (plan : PlanModel) (turns : List Numbers) → HoldsFed plan turns (Some content.old) → result ≡ found_so_far plan (turns ++ row.now ∷ []) }
+    ensures other { auditor_in (Some content.old) ≡ None → (content.new ≡ content.old) × (result ≡ Err CliFault.Usage) }
+{
+    match content {
+        Content::Auditor(fed) => fed.feed(row),
+        _ => Err(CliFault::Usage),
+    }
 }
 
 /// Takes the next row: the verdict on the rows so far, as `msrp_audit_rows` gives it.
 #[unsafe(no_mangle)]
 pub extern "C" fn msrp_auditor_feed(
     alloc: Global,
-    auditor: &mut MsrpAuditor,
+    auditor: &mut MsrpHandle,
     row: &MsrpRow,
     found: &mut MsrpFound,
 ) -> u32
-    ensures fed { (plan : PlanModel) (turns : List Numbers) → IsSomeAnd auditor.old.value (IsFed plan turns) → IsSomeAnd auditor.new.value (IsFed plan (turns ++ row.now ∷ [])) }
-    ensures answer { (plan : PlanModel) (turns : List Numbers) → IsSomeAnd auditor.old.value (IsFed plan turns) → Tells (found_so_far plan (turns ++ row.now ∷ [])) found.new result }
-    ensures misuse { auditor.old.value ≡ None → IsMisuse None auditor.new.value found.new result }
+    ensures fed { (plan : PlanModel) (turns : List Numbers) → HoldsFed plan turns auditor.old.value → HoldsFed plan (turns ++ row.now ∷ []) auditor.new.value }
+    ensures answer { (plan : PlanModel) (turns : List Numbers) → HoldsFed plan turns auditor.old.value → Tells (found_so_far plan (turns ++ row.now ∷ [])) found.new result }
+    ensures misuse { auditor_in auditor.old.value ≡ None → IsMisuse auditor.old.value auditor.new.value found.new result }
 {
-    let Some(mut fed) = auditor.take(alloc) else {
+    let Some(mut content) = auditor.take(alloc) else {
         return tell(Err(CliFault::Usage), found);
     };
-    let what = fed.feed(row);
-    *auditor = MsrpAuditor::held(fed);
+    let what = feed(&mut content, row);
+    *auditor = MsrpHandle::held(content);
     tell(what, found)
+}
+
+// The verdict on what the auditor of a handle was fed as a whole trace.
+fn end(content: &Content) -> Result<Result<(), Fault>, CliFault>
+    ensures found { (plan : PlanModel) (turns : List Numbers) → HoldsFed plan turns (Some content.now) → result ≡ found_whole plan turns }
+    ensures other { auditor_in (Some content.now) ≡ None → result ≡ Err CliFault.Usage }
+{
+    match content {
+        Content::Auditor(fed) => fed.end(),
+        _ => Err(CliFault::Usage),
+    }
 }
 
 /// The verdict on the rows so far as a whole trace. Rows may be fed after it.
 #[unsafe(no_mangle)]
 pub extern "C" fn msrp_auditor_end(
     alloc: Global,
-    auditor: &mut MsrpAuditor,
+    auditor: &mut MsrpHandle,
     found: &mut MsrpFound,
 ) -> u32
     ensures same { auditor.new.value ≡ auditor.old.value }
-    ensures answer { (plan : PlanModel) (turns : List Numbers) → IsSomeAnd auditor.old.value (IsFed plan turns) → Tells (found_whole plan turns) found.new result }
-    ensures misuse { auditor.old.value ≡ None → IsMisuse None auditor.new.value found.new result }
+    ensures answer { (plan : PlanModel) (turns : List Numbers) → HoldsFed plan turns auditor.old.value → Tells (found_whole plan turns) found.new result }
+    ensures misuse { auditor_in auditor.old.value ≡ None → IsMisuse auditor.old.value auditor.new.value found.new result }
 {
-    let Some(fed) = auditor.take(alloc) else {
+    let Some(content) = auditor.take(alloc) else {
         return tell(Err(CliFault::Usage), found);
     };
-    let what = fed.end();
-    *auditor = MsrpAuditor::held(fed);
+    let what = end(&content);
+    *auditor = MsrpHandle::held(content);
     tell(what, found)
+}
+
+// What the auditor of a handle was fed is forgotten.
+fn begin_again(alloc: Global, content: &mut Content) -> u32
+    ensures again { (plan : PlanModel) (turns : List Numbers) → HoldsFed plan turns (Some content.old) → result ≡ 0 → HoldsFed plan [] (Some content.new) }
+    ensures same { result ≢ 0 → content.new ≡ content.old }
+    ensures status { IsSome (auditor_in (Some content.old)) → (result ≡ 0) ⊎ (result ≡ 4) }
+    ensures other { auditor_in (Some content.old) ≡ None → result ≡ 3 }
+{
+    let Content::Auditor(fed) = content else {
+        return USAGE;
+    };
+    match fed.begin_again(alloc) {
+        Ok(()) => GOOD,
+        Err(Memory) => MEMORY,
+    }
 }
 
 /// Begins a new trace of the same plan. Where memory is refused the auditor is as before.
 #[unsafe(no_mangle)]
-pub extern "C" fn msrp_auditor_again(alloc: Global, auditor: &mut MsrpAuditor) -> u32
-    ensures again { (plan : PlanModel) (turns : List Numbers) → IsSomeAnd auditor.old.value (IsFed plan turns) → result ≡ 0 → IsSomeAnd auditor.new.value (IsFed plan []) }
+pub extern "C" fn msrp_auditor_again(alloc: Global, auditor: &mut MsrpHandle) -> u32
+    ensures again { (plan : PlanModel) (turns : List Numbers) → HoldsFed plan turns auditor.old.value → result ≡ 0 → HoldsFed plan [] auditor.new.value }
     ensures same { result ≢ 0 → auditor.new.value ≡ auditor.old.value }
-    ensures status { IsSome auditor.old.value → (result ≡ 0) ⊎ (result ≡ 4) }
-    ensures misuse { auditor.old.value ≡ None → result ≡ 3 }
+    ensures status { IsSome (auditor_in auditor.old.value) → (result ≡ 0) ⊎ (result ≡ 4) }
+    ensures misuse { auditor_in auditor.old.value ≡ None → result ≡ 3 }
 {
-    let Some(mut fed) = auditor.take(alloc) else {
+    let Some(mut content) = auditor.take(alloc) else {
         return USAGE;
     };
-    let status = match fed.begin_again(alloc) {
-        Ok(()) => 0,
-        Err(Memory) => MEMORY,
-    };
-    *auditor = MsrpAuditor::held(fed);
+    let status = begin_again(alloc, &mut content);
+    *auditor = MsrpHandle::held(content);
     status
 }
 
 /// Gives the auditor's memory back, but for that of the plan and its levels.
 #[unsafe(no_mangle)]
-pub extern "C" fn msrp_auditor_free(alloc: Global, auditor: &mut MsrpAuditor)
+pub extern "C" fn msrp_auditor_free(alloc: Global, auditor: &mut MsrpHandle)
     ensures { auditor.new.value ≡ None }
 {
     let _freed = auditor.take(alloc);

@@ -1,6 +1,6 @@
 //! The verdict on a trace, and the report of a legal run.
-ghost use Rattle.std.specs.Prelude.{◌≡◌, ◌⊎◌, ◌||◌};
-ghost use Rattle.msrp_plan.specs.Common.{Err, true, false};
+ghost use Rattle.std.specs.Prelude.{◌≡◌, ◌||◌};
+ghost use Rattle.msrp_plan.specs.Common.{Err};
 ghost use Rattle.msrp_engine.specs.Findings.{finding_of};
 ghost use Rattle.msrp_engine.specs.Reports.{IsReportOf};
 ghost use Rattle.msrp_faults.specs.declared.faults.CliFault.{CliFault};

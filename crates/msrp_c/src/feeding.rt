@@ -1,6 +1,6 @@
 //! What an auditor takes between two calls, and what it answers.
 ghost use Rattle.std.specs.Prelude.{◌≡◌, ◌<◌, ◌+◌, ◌++◌, ◌∷◌};
-ghost use Rattle.msrp_plan.specs.Common.{[], ℕ, IfOk, IfErr, List, PlanModel};
+ghost use Rattle.msrp_plan.specs.Common.{[], IfOk, IfErr, List, PlanModel};
 ghost use Rattle.msrp_c.specs.Feeding.{IsFed, Steps, found_whole, is_good};
 ghost use Rattle.msrp_c.specs.declared.turns.MsrpRow.{MsrpRow as Numbers};
 

@@ -1,84 +1,101 @@
-//! An auditor in the hands of C.
+//! A handle in the hands of C.
 ghost use Rattle.std.specs.Prelude.{◌≡◌};
+ghost use Rattle.std.specs.Coded.{coded_option};
+ghost use Rattle.std.specs.Option.{is_some};
 ghost use Rattle.msrp_plan.specs.Common.{Option, Some, None, option_map};
-ghost use Rattle.msrp_c.specs.declared.held.FedAuditor.{FedAuditor as Auditor};
+ghost use Rattle.msrp_c.specs.contracts.content.Content.{the_row};
+ghost use Rattle.msrp_c.specs.declared.content.Content.{Content as Held};
 
-use crate::held::FedAuditor;
+use crate::content::Content;
 use crate::loose::Loose;
 use std::alloc::{Allocator, Global};
 use std::marker::Model;
 use std::mem::replace;
 use std::ptr::null_mut;
 
-/// What C keeps of an auditor: one pointer, which only this library follows. It is null if the
-/// handle holds none.
+/// What C keeps of an auditor, a run or a core: one pointer, which only this library follows. It is
+/// null if the handle holds nothing.
 #[repr(C)]
 #[derive(Drop)]
-pub struct MsrpAuditor {
+pub struct MsrpHandle {
     at: *mut u8,
     alloc: Global,
-    pub ghost value: { Option Auditor },
+    pub ghost value: { Option Held } by { coded_option the_row.coded },
 }
 
-impl Model for MsrpAuditor {
+impl Model for MsrpHandle {
     ghost use Rattle.msrp_c.specs.Held.{holds};
-    ghost use Rattle.msrp_c.specs.contracts.held.FedAuditor.{the_row};
+    ghost use Rattle.msrp_c.specs.contracts.content.Content.{the_row};
 
     ghost also_owns = { λ h. holds (⟦<Global as Allocator>⟧.dealloc_token h.alloc) the_row h.at h.value };
 }
 
-impl MsrpAuditor {
+impl MsrpHandle {
     // The pointer loses its type.
-    fn of(fed: Loose<FedAuditor, Global>) -> MsrpAuditor
-        ensures { result.value ≡ Some fed.value }
+    fn of(content: Loose<Content, Global>) -> MsrpHandle
+        ensures { result.value ≡ Some content.value }
     {
-        let Loose { at, alloc } = fed;
-        MsrpAuditor {
+        let Loose { at, alloc } = content;
+        MsrpHandle {
             at: at.cast::<u8>(),
             alloc,
         }
     }
 
     // The pointer has its type again, unless it is null.
-    fn into_loose(self) -> Option<Loose<FedAuditor, Global>>
+    fn into_loose(self) -> Option<Loose<Content, Global>>
         ensures { option_map (λ l. l.value) result ≡ self.value }
     {
-        let MsrpAuditor { at, alloc } = self;
+        let MsrpHandle { at, alloc } = self;
         if at.is_null() {
             None
         } else {
             Some(Loose {
-                at: at.cast::<FedAuditor>(),
+                at: at.cast::<Content>(),
                 alloc,
             })
         }
     }
 
-    /// A handle that holds none.
-    pub(crate) fn none(alloc: Global) -> MsrpAuditor
+    // A handle that holds nothing.
+    fn none(alloc: Global) -> MsrpHandle
         ensures { result.value ≡ None }
     {
-        MsrpAuditor {
+        MsrpHandle {
             at: null_mut(),
             alloc,
         }
     }
 
-    /// A handle that holds this one.
-    pub(crate) fn held(fed: Box<FedAuditor, Global>) -> MsrpAuditor
-        ensures { result.value ≡ Some fed.value }
+    /// A handle that holds this.
+    pub(crate) fn held(content: Box<Content, Global>) -> MsrpHandle
+        ensures { result.value ≡ Some content.value }
     {
-        MsrpAuditor::of(Loose::of(fed))
+        MsrpHandle::of(Loose::of(content))
     }
 
-    /// What the handle holds; it holds none then.
-    pub(crate) fn take(&mut self, alloc: Global) -> Option<Box<FedAuditor, Global>>
-        ensures taken { option_map (λ fed. fed.value) result ≡ self.old.value }
+    /// What the handle holds; it holds nothing then.
+    pub(crate) fn take(&mut self, alloc: Global) -> Option<Box<Content, Global>>
+        ensures taken { option_map (λ content. content.value) result ≡ self.old.value }
         ensures none { self.new.value ≡ None }
     {
-        match replace(self, MsrpAuditor::none(alloc)).into_loose() {
+        match replace(self, MsrpHandle::none(alloc)).into_loose() {
             Some(loose) => Some(loose.into_box()),
             None => None,
+        }
+    }
+
+    /// Whether the handle holds something.
+    pub(crate) fn is_used(&mut self, alloc: Global) -> bool
+        ensures used { result ≡ is_some self.old.value }
+        ensures same { self.new.value ≡ self.old.value }
+    {
+        match self.take(alloc) {
+            Some(content) => {
+                *self = MsrpHandle::held(content);
+                true
+            }
+            None => false,
         }
     }
 }

@@ -8,14 +8,20 @@ ghost use Rattle.std.specs.Prelude.{◌≡◌};
 mod answers;
 mod auditor;
 mod audits;
+mod content;
+mod cores;
 mod feeding;
 mod handle;
 mod held;
 mod loading;
 mod loose;
+mod numbers;
+mod open_run;
+mod opening;
 mod orders;
 mod pictures;
 mod plans;
+mod runs;
 mod turns;
 mod whys;
 
@@ -24,9 +30,11 @@ pub use auditor::{
     msrp_auditor_again, msrp_auditor_end, msrp_auditor_feed, msrp_auditor_free, msrp_auditor_new,
 };
 pub use audits::{msrp_audit, msrp_audit_rows, msrp_report};
-pub use handle::MsrpAuditor;
+pub use cores::{msrp_core_arrive, msrp_core_free, msrp_core_turn};
+pub use handle::MsrpHandle;
 pub use pictures::msrp_view;
 pub use plans::{msrp_check, msrp_plan_text, msrp_sim};
+pub use runs::{msrp_run_core, msrp_run_free, msrp_run_join, msrp_run_new, msrp_run_text};
 pub use turns::MsrpRow;
 pub use whys::{msrp_why, msrp_why_plan};
 

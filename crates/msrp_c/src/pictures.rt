@@ -1,5 +1,5 @@
 //! The picture of a trace.
-ghost use Rattle.std.specs.Prelude.{◌≡◌, ◌⊎◌, ◌||◌};
+ghost use Rattle.std.specs.Prelude.{◌||◌};
 ghost use Rattle.msrp_plan.specs.Common.{Err};
 ghost use Rattle.msrp_text.specs.Reading.{csv_records, plan_of};
 ghost use Rattle.msrp_c.specs.Answers.{Answers, is_long};

@@ -1,6 +1,5 @@
 //! Texts of a plan: its run, its levels and ceilings, and its own text.
-ghost use Rattle.std.specs.Prelude.{◌≡◌, ◌⊎◌};
-ghost use Rattle.msrp_plan.specs.Common.{ℕ, List, Ok, IfOk, IfErr, true};
+ghost use Rattle.msrp_plan.specs.Common.{Ok};
 ghost use Rattle.msrp_engine.specs.CheckText.{check_text};
 ghost use Rattle.msrp_engine.specs.Simulation.{IsTextOf, WhyNoText};
 ghost use Rattle.msrp_text.specs.PlanText.{plan_text};

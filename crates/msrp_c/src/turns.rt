@@ -1,9 +1,7 @@
 //! Rows as numbers, and the verdict on them.
 ghost use Rattle.std.specs.Prelude.{◌≡◌};
-ghost use Rattle.msrp_plan.specs.Common.{[], true, map, option_map, has_shape, may_carry};
+ghost use Rattle.msrp_plan.specs.Common.{[], map, option_map, has_shape, may_carry};
 ghost use Rattle.msrp_audit.specs.Audits.{HasFed};
-ghost use Rattle.msrp_plan.specs.declared.ids.ResId.{ResId as Resource};
-ghost use Rattle.msrp_trace.specs.Rows.{row_with};
 ghost use Rattle.msrp_c.specs.Turns.{finding_in, job_numbered, kind_numbered, numbered, row_of, shaped_row, told_in};
 
 use msrp_audit::{Auditor, Fault};
@@ -29,8 +27,8 @@ pub struct MsrpRow {
     pub ahead: u32,
 }
 
-// The number where there is none.
-const NONE: u32 = 4_294_967_295;
+/// The number where there is none.
+pub(crate) const NONE: u32 = 4_294_967_295;
 
 fn numbered(number: u32) -> Option<u32>
     ensures { result ≡ numbered number }

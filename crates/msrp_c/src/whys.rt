@@ -1,5 +1,5 @@
 //! Words on a trace, and on a plan.
-ghost use Rattle.std.specs.Prelude.{◌≡◌, ◌⊎◌, ◌||◌};
+ghost use Rattle.std.specs.Prelude.{◌||◌};
 ghost use Rattle.msrp_plan.specs.Common.{IfOk, Err};
 ghost use Rattle.msrp_text.specs.Reading.{csv_records, plan_of};
 ghost use Rattle.msrp_view_engine.specs.Answers.{IsOnPlan};

@@ -98,6 +98,13 @@ impl<'a> HostedRun<'a> {
         })
     }
 
+    /// Whether all cores were handed out.
+    pub fn is_all_out(&self) -> bool
+        ensures { (result ≡ true) ↔ (self.now.handed ≡ self.now.plan.cores) }
+    {
+        self.handed == self.plan.cores()
+    }
+
     /// Hands out the next core, cores rising. The last one lets all of them into tick 0.
     pub fn next_core(&mut self) -> Result<HostedCore<'a>, NoCore>
         ensures next { IfOk result (λ core. core ≡ new_core self.old) }
@@ -184,7 +191,7 @@ impl<'a> HostedRun<'a> {
 
     /// Settles the run once all its cores were joined; before that it is given back. It takes no memory.
     pub fn settle(self) -> Result<SettledRun<'a>, HostedRun<'a>>
-        ensures settled { IfOk result (λ settled. (length self.entry.joined ≡ self.entry.plan.cores) × (settled ≡ record { plan = self.entry.plan; turns = self.entry.joined })) }
+        ensures settled { IfOk result (λ settled. (self.entry.handed ≡ self.entry.plan.cores) × (length self.entry.joined ≡ self.entry.plan.cores) × (settled ≡ record { plan = self.entry.plan; turns = self.entry.joined })) }
         ensures early { IfErr result (λ back. back ≡ self.entry) }
     {
         let cores = self.plan.cores();

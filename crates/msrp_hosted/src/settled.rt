@@ -1,6 +1,6 @@
 //! A run that has ended.
 ghost use Rattle.std.specs.Prelude.{◌≡◌, ◌<◌};
-ghost use Rattle.msrp_plan.specs.Common.{ℕ, List, IfOk, true, carries_ahead, log_of, IsRun};
+ghost use Rattle.msrp_plan.specs.Common.{ℕ, List, IfOk, true, carries_ahead, log_of, IsPlan, IsRun};
 ghost use Rattle.msrp_plan.specs.Laws.{KeepsLaws};
 ghost use Rattle.msrp_merge.specs.declared.logs.Turn.{Turn};
 ghost use Rattle.msrp_merge.specs.Sorting.{IsMerged};
@@ -33,6 +33,14 @@ impl<'a> Model for SettledRun<'a> {
 }
 
 impl<'a> SettledRun<'a> {
+    /// The plan of the run.
+    pub fn plan(&self) -> &Plan
+        ensures plan { result.now ≡ self.now.plan }
+        ensures accepted { IsPlan self.now.plan }
+    {
+        self.plan
+    }
+
     /// The rows of all cores in one trace, which is a legal run of the plan, whatever way the threads' steps interleaved. It is [`Memory`] only where memory
     /// was refused.
     pub fn trace(&self, alloc: Global) -> Result<Trace, Memory>

@@ -21,11 +21,11 @@ use Rattle.std.proofs.raw_atomic.Walks.{proved_at, leaves}
 use Rattle.std.specs.contracts.impls.GlobalAllocator.TheImpl.{ghosts}
 use Rattle.msrp_c.proofs.HandleValues.{both, Loose, loose_good, loose_out}
 use Rattle.msrp_c.proofs.Handles.{R, Z, handle_in}
-use Rattle.msrp_c.specs.contracts.handle.MsrpAuditor.of.{ended, clauses}
-use Rattle.msrp_c.specs.contracts.handle.MsrpAuditor.of.Key.{name as #self}
-use Rattle.msrp_c.proofs.handle.MsrpAuditor.of.Statement.{statement}
+use Rattle.msrp_c.specs.contracts.handle.MsrpHandle.of.{ended, clauses}
+use Rattle.msrp_c.specs.contracts.handle.MsrpHandle.of.Key.{name as #self}
+use Rattle.msrp_c.proofs.handle.MsrpHandle.of.Statement.{statement}
 use Rattle.std.proofs.alloc.Global.TheLaws as heap_laws
-use Rattle.msrp_c.proofs.handle.MsrpAuditor.of.Code as code
+use Rattle.msrp_c.proofs.handle.MsrpHandle.of.Code as code
 
 pub of_spec : {M : Type 1} → statement M
 of_spec 𝓤 𝓛 𝓜 𝓡 wired =

@@ -24,10 +24,10 @@ use Rattle.std_alloc.proofs.ResultValues.{and_tt}
 use Rattle.std.proofs.raw_atomic.Walks.{proved_at, leaves}
 use Rattle.msrp_c.proofs.HandleValues.{both}
 use Rattle.msrp_c.proofs.Handles.{Z, al, none_in}
-use Rattle.msrp_c.specs.contracts.handle.MsrpAuditor.none.{ended, clauses}
-use Rattle.msrp_c.specs.contracts.handle.MsrpAuditor.none.Key.{name as #self}
-use Rattle.msrp_c.proofs.handle.MsrpAuditor.none.Statement.{statement}
-use Rattle.msrp_c.proofs.handle.MsrpAuditor.none.Code as code
+use Rattle.msrp_c.specs.contracts.handle.MsrpHandle.none.{ended, clauses}
+use Rattle.msrp_c.specs.contracts.handle.MsrpHandle.none.Key.{name as #self}
+use Rattle.msrp_c.proofs.handle.MsrpHandle.none.Statement.{statement}
+use Rattle.msrp_c.proofs.handle.MsrpHandle.none.Code as code
 
 pub none_spec : {M : Type 1} → statement M
 none_spec 𝓤 𝓛 𝓜 𝓡 wired =

@@ -28,11 +28,11 @@ use Rattle.std.proofs.raw_atomic.Walks.{proved_at, leaves}
 use Rattle.std.specs.contracts.impls.GlobalAllocator.TheImpl.{ghosts}
 use Rattle.msrp_c.proofs.HandleValues.{both, Loose, loose_good, loose_in}
 use Rattle.msrp_c.proofs.Handles.{R, Z, Handle, handle_words, held_or_none}
-use Rattle.msrp_c.specs.contracts.handle.MsrpAuditor.into_loose.{ended, clauses}
-use Rattle.msrp_c.specs.contracts.handle.MsrpAuditor.into_loose.Key.{name as #self}
-use Rattle.msrp_c.proofs.handle.MsrpAuditor.into_loose.Statement.{statement}
+use Rattle.msrp_c.specs.contracts.handle.MsrpHandle.into_loose.{ended, clauses}
+use Rattle.msrp_c.specs.contracts.handle.MsrpHandle.into_loose.Key.{name as #self}
+use Rattle.msrp_c.proofs.handle.MsrpHandle.into_loose.Statement.{statement}
 use Rattle.std.proofs.alloc.Global.TheLaws as heap_laws
-use Rattle.msrp_c.proofs.handle.MsrpAuditor.into_loose.Code as code
+use Rattle.msrp_c.proofs.handle.MsrpHandle.into_loose.Code as code
 
 pub into_loose_spec : {M : Type 1} → statement M
 into_loose_spec 𝓤 𝓛 𝓜 𝓡 wired =
