@@ -5,17 +5,18 @@
 //! engines, which turn bytes into bytes, are `msrp_engine`'s.
 #![tactic(auto)]
 
-use msrp_cli::{Input, open, open_both, words_of};
+use msrp_cli::{Input, STANDARD, open, open_both, words_of};
 use msrp_engine::write_answer;
 pub use msrp_engine::{
     CliFault, audit_parallel_text, audit_text, check_text, exit_of, plan_text, report_text,
     run_text, run_text_if, sim_text,
 };
+use msrp_hints::{NOT_UTF8, Paths, are_wanted, hint_on, is_on_terminal};
 use msrp_plan::TextVersion;
 use msrp_plan::bytes::{Sink, Source};
 use msrp_sim::Order;
 pub use msrp_words::command_of;
-use msrp_words::{Cmd, help_text};
+use msrp_words::{Cmd, help_text, usage_text};
 use std::io;
 use std::io::Write;
 use std::process::ExitCode;
@@ -115,13 +116,16 @@ fn report<W: Write>(
 }
 
 // Does what the words ask for, and answers the exit status. `threads` starts the threads of a run, and of an audit in pieces.
-fn run<T: Threads + Wait + Sync>(rt: &HostRuntime, threads: &T) -> Result<u8, CliFault> {
+fn run<T: Threads + Wait + Sync>(
+    rt: &HostRuntime,
+    threads: &T,
+    words: &[String],
+) -> Result<u8, CliFault> {
     let alloc = rt.alloc();
-    let words = words_of(rt)?;
     let mut out = Sink::new(io::writer(rt));
-    match command_of(alloc, words.as_slice())? {
+    match command_of(alloc, words)? {
         Cmd::Help => {
-            let help = help_text(alloc, words.as_slice())?;
+            let help = help_text(alloc, words)?;
             write_answer(&mut out, help.as_bytes(), Ok(0))
         }
         Cmd::Sim {
@@ -146,10 +150,50 @@ fn run<T: Threads + Wait + Sync>(rt: &HostRuntime, threads: &T) -> Result<u8, Cl
     }
 }
 
+// The paths of the texts that a command reads.
+fn paths_of<'a>(cmd: &Cmd<'a>) -> Paths<'a> {
+    let (plan, trace) = match *cmd {
+        Cmd::Sim { plan, .. } | Cmd::Run { plan, .. } => (plan, None),
+        Cmd::Check { plan } | Cmd::CheckText { plan } => (plan, None),
+        Cmd::Audit { plan, trace, .. } | Cmd::Report { plan, trace } => (plan, Some(trace)),
+        Cmd::Help => (STANDARD, None),
+    };
+    Paths { plan, trace }
+}
+
+// What follows the line of a fault, or a verdict, for a person.
+#[inline(never)]
+fn hint(
+    rt: &HostRuntime,
+    words: &Result<Vec<String>, CliFault>,
+    outcome: &Result<u8, CliFault>,
+) -> Result<String, CliFault> {
+    let alloc = rt.alloc();
+    let words = match words {
+        Ok(words) => words.as_slice(),
+        Err(CliFault::Usage) => return Ok(String::from_str(alloc, NOT_UTF8)?),
+        Err(fault) => return Err(*fault),
+    };
+    if *outcome == Err(CliFault::Usage) {
+        return usage_text(alloc, words);
+    }
+    let cmd = command_of(alloc, words)?;
+    hint_on(rt, outcome, paths_of(&cmd))
+}
+
 fn main(rt: HostRuntime) -> ExitCode {
-    let outcome = run(&rt, &rt);
+    let words = words_of(&rt);
+    let outcome = match &words {
+        Ok(words) => run(&rt, &rt, words.as_slice()),
+        Err(fault) => Err(*fault),
+    };
     if let Err(fault) = &outcome {
         let _ = eprintln!(rt; "msrp: {fault}");
+    }
+    if outcome != Ok(0) && are_wanted(&rt, is_on_terminal(&rt, &outcome)) {
+        if let Ok(hint) = hint(&rt, &words, &outcome) {
+            let _ = eprint!(rt; "{hint}");
+        }
     }
     ExitCode::from(exit_of(&outcome))
 }

@@ -194,7 +194,7 @@ fn grammar<'a>(alloc: Global) -> Result<Command<'a>, AllocError>
     ensures { IfOk result (Takes line.grammar) }
 {
     let program = Command::new(alloc, "msrp").about(
-        "MSRP 0.1.0, the Multiprocessor Stack Resource Policy: simulates, runs, audits and reports. Without a command, it reads a plan from standard input and simulates it.",
+        "MSRP 0.2.0, the Multiprocessor Stack Resource Policy: simulates, runs, audits and reports. Without a command, it reads a plan from standard input and simulates it.",
     );
     let program = with_command(Ok(program), sim(alloc));
     let program = with_command(program, run(alloc));
@@ -230,6 +230,33 @@ pub fn help_text<'a>(alloc: Global, words: &'a [String]) -> Result<String, CliFa
     match grammar(alloc)?.try_get_matches_from(words) {
         Ok(_) => program_help(alloc),
         Err(answer) => help_in(alloc, answer),
+    }
+}
+
+// Why arguments that the parser accepts are no command: the order, or else standard input twice.
+fn misuse_in(alloc: Global, matches: &ArgMatches<'_>) -> Result<String, AllocError> {
+    let order = match matches.subcommand() {
+        Some(("sim", words)) => value_of(words, ORDER),
+        _ => None,
+    };
+    match order {
+        Some(order) => {
+            format!(in alloc; "error: unknown order '{order}'; must be asc, desc or rot\n")
+        }
+        None => String::from_str(
+            alloc,
+            "error: the plan and the trace can't both be standard input (-)\n",
+        ),
+    }
+}
+
+/// Why these words are no command, for a person.
+pub fn usage_text<'a>(alloc: Global, words: &'a [String]) -> Result<String, CliFault>
+    ensures { IfErr result (λ fault. fault ≡ CliFault.Memory) }
+{
+    match grammar(alloc)?.try_get_matches_from(words) {
+        Ok(matches) => Ok(misuse_in(alloc, &matches)?),
+        Err(answer) => Ok(answer.to_string(alloc)?),
     }
 }
 

@@ -3,4 +3,4 @@
 
 mod cli;
 
-pub use cli::{Cmd, command_of, help_text};
+pub use cli::{Cmd, command_of, help_text, usage_text};

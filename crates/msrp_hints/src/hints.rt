@@ -1,0 +1,108 @@
+//! The hint on an outcome.
+
+use crate::files::{failure, read_again};
+use crate::refusals::{plan_reason, trace_reason};
+use msrp_cli::STANDARD;
+use msrp_faults::CliFault;
+use msrp_text::read_plan;
+use std::fmt::{self, Formatter, Write};
+
+/// The hint where an argument isn't UTF-8, and so no command is known.
+pub const NOT_UTF8: &str = "error: an argument isn't UTF-8\n";
+
+/// The paths of a command's texts, as they were given. As a text they are the command that explains
+/// the texts.
+#[derive(Clone, Copy, Debug)]
+pub struct Paths<'a> {
+    pub plan: &'a str,
+    pub trace: Option<&'a str>,
+}
+
+// A path as one word, in quotes where it has other characters than paths mostly have.
+#[derive(Clone, Copy)]
+struct Word<'a>(&'a str);
+
+impl fmt::Display for Word<'_> {
+    fn fmt<W: Write>(&self, f: &mut Formatter<W>) -> fmt::Result {
+        let is_usual = |c: char| c.is_ascii_alphanumeric() || "-_./+,:=@%<>".contains(c);
+        if !self.0.is_empty() && self.0.chars().all(is_usual) {
+            f.write_str(self.0)
+        } else {
+            write!(f, "{:?}", self.0)
+        }
+    }
+}
+
+impl fmt::Display for Paths<'_> {
+    fn fmt<W: Write>(&self, f: &mut Formatter<W>) -> fmt::Result {
+        write!(f, "why: msrp_view --why {}", Word(self.plan))?;
+        if let Some(trace) = self.trace {
+            write!(f, " {}", Word(trace))?;
+        }
+        if self.plan == STANDARD || self.trace == Some(STANDARD) {
+            f.write_str(" (with the same input)")?;
+        }
+        f.write_char('\n')
+    }
+}
+
+// What a text is called.
+fn name_of(path: &str) -> &str {
+    if path == STANDARD { "<stdin>" } else { path }
+}
+
+// Which text can't be read, and why.
+fn unread(rt: &HostRuntime, paths: Paths<'_>) -> Result<String, CliFault> {
+    for path in [Some(paths.plan), paths.trace].iter().flatten() {
+        if let Some(error) = failure(rt, path) {
+            let name = Word(name_of(path));
+            return Ok(format!(in rt.alloc(); "cannot read {name}: {error}\n")?);
+        }
+    }
+    let words = "a text has 16,777,216 bytes or more, or a read of it failed\n";
+    Ok(String::from_str(rt.alloc(), words)?)
+}
+
+// Why the plan, or the trace if there is one, is refused, if all can be read again.
+fn reason(rt: &HostRuntime, paths: Paths<'_>) -> Result<Option<String>, CliFault> {
+    let alloc = rt.alloc();
+    let Some(mut plan) = read_again(rt, paths.plan) else {
+        return Ok(None);
+    };
+    let Some(path) = paths.trace else {
+        return plan_reason(alloc, name_of(paths.plan), &mut plan);
+    };
+    match read_again(rt, path) {
+        Some(mut trace) => {
+            let plan = read_plan(alloc, &mut plan)?;
+            trace_reason(alloc, name_of(path), &plan, &mut trace)
+        }
+        None => Ok(None),
+    }
+}
+
+/// What is added to an outcome of a command on these texts, in lines; nothing where there is
+/// nothing to add.
+pub fn hint_on(
+    rt: &HostRuntime,
+    outcome: &Result<u8, CliFault>,
+    paths: Paths<'_>,
+) -> Result<String, CliFault> {
+    let (paths, reason) = match outcome {
+        Ok(1) => (paths, None),
+        Err(CliFault::Trace { .. }) => (paths, reason(rt, paths)?),
+        Err(CliFault::Plan { .. }) => {
+            let plan = Paths {
+                trace: None,
+                ..paths
+            };
+            (plan, reason(rt, plan)?)
+        }
+        Err(CliFault::Read) => return unread(rt, paths),
+        _ => return Ok(String::new(rt.alloc())),
+    };
+    match reason {
+        Some(reason) => Ok(reason),
+        None => Ok(format!(in rt.alloc(); "{paths}")?),
+    }
+}

@@ -1,0 +1,14 @@
+//! What follows the line of a fault on standard error, for a person: the system's reason, what is
+//! wrong with a refused text, or the command that explains a faulty row.
+//!
+//! [`are_wanted`] says whether that is written, and [`hint_on`] makes it. A refused text is read
+//! again for it. The texts are tested, and not proved.
+#![tactic(auto)]
+
+mod files;
+mod hints;
+mod refusals;
+mod wanted;
+
+pub use hints::{NOT_UTF8, Paths, hint_on};
+pub use wanted::{are_wanted, is_on_terminal};
