@@ -1,12 +1,12 @@
 //! The auditor, row by row.
-ghost use Rattle.std.specs.Prelude.{◌≡◌, ◌≤◌, ◌<◌, ◌+◌, ◌*◌, ◌/◌, ◌%◌, ◌++◌, ◌∷◌, ◌↔◌};
-ghost use Rattle.msrp_plan.specs.Common.{[], ℕ, List, IfOk, IfNone, IfSome, Some, None, Err, length, true, IsSomeAnd, most_rows, log_of, is_of_core, is_in_turn, fault_in, verdict, IsPlan};
+ghost use Rattle.std.specs.Prelude.{◌≡◌, ◌≤◌, ◌<◌, ◌+◌, ◌*◌, ◌/◌, ◌++◌, ◌∷◌, ◌↔◌};
+ghost use Rattle.msrp_plan.specs.Common.{[], ℕ, List, IfOk, IfNone, IfSome, Some, None, Err, length, true, most_rows, is_of_core, is_in_turn, fault_in, verdict, IsPlan};
 ghost use Rattle.std.specs.Option.{is_some};
-ghost use Rattle.msrp_core.specs.CoreStates.{IsCoreState};
+ghost use Rattle.msrp_core.specs.CoreStates.{IsStateAfter};
 ghost use Rattle.msrp_plan.specs.Verdict.{refused};
 ghost use Rattle.msrp_plan.specs.declared.faults.Fault.{Fault as TraceFault};
 ghost use Rattle.msrp_plan.specs.declared.rows.Row.{Row as TraceRow};
-ghost use Rattle.msrp_sim.specs.Cores.{IsDueInRun, IsNextRow, IsSomeTurn, IsAs, Leaves, known_row};
+ghost use Rattle.msrp_sim.specs.Cores.{IsNextRow, IsSomeTurn, IsAs, Leaves, known_row};
 ghost use Rattle.msrp_sim.specs.TurnPorts.{unless_granted};
 ghost use Rattle.msrp_audit.specs.Audits.{HasFed, IsDueInAudit, IsOutOfTurn, Awaits, answer_of, has_turn};
 
@@ -256,20 +256,6 @@ impl<'a> Auditor<'a> {
         }
     }
 
-    /// The core's next row, with its ahead: while the rows so far have no fault, the one legal row of a core that is due.
-    /// It is none where the core has had all its turns, and none of a core that the plan hasn't. Whoever foresees a row
-    /// feeds the row that comes.
-    #[inline(always)]
-    pub fn foresee(&self, core: CoreId) -> Option<Row>
-        ensures { (rows : List TraceRow) → HasFed self.now rows → self.now.fault ≡ None → IsDueInRun self.now.plan rows core.0 → IsSomeAnd result (IsNextRow self.now.plan rows core.0) }
-    {
-        if core.0 < self.plan.cores() {
-            self.cores.foresee(core)
-        } else {
-            None
-        }
-    }
-
     /// Whether a row is in its turn: of the tick that is due, and of a core that has its turn in it still to come. While the rows so far have
     /// no fault and rows are left, a row that isn't is A1.
     #[inline(always)]
@@ -305,7 +291,7 @@ impl<'a> Auditor<'a> {
 
     /// What decides who has the core's next turn, while the rows so far have no fault; none of a core that the plan hasn't.
     pub fn state(&self, core: CoreId) -> Option<CoreState>
-        ensures { (rows : List TraceRow) → HasFed self.now rows → self.now.fault ≡ None → core.0 < self.now.plan.cores → IsSomeAnd result (IsCoreState self.now.plan core.0 (length (log_of core.0 rows)) rows) }
+        ensures { (rows : List TraceRow) → HasFed self.now rows → self.now.fault ≡ None → IsStateAfter self.now.plan rows core.0 result }
     {
         if core.0 < self.plan.cores() {
             Some(self.cores.state(core))

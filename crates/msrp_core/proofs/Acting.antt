@@ -1,6 +1,6 @@
 -- An action of the running job, over what is stored of the jobs of a core.
-use Rattle.std.proofs.Common.{◌≡◌, ◌+◌, ◌<◌, ◌≤◌, ◌&&◌, ◌∷◌, ◌∙◌}
-use Rattle.msrp_plan.proofs.Common.{ℕ, Bool, true, false, cond, nat_eq, List, [], Option, Some, refl, ap, sym, subst, arith, length, slice_get, vec_capacity, list_any, AllByRecursion, Contains, true≢false, and_from, false_from_ne_true, ForSome, PlanModel, units, jobs_on, is_waiting, IsPlan, is_global, same_res, res_of_unit, is_global_unit, allows, does_unit, phase_with, state_with}
+use Rattle.std.proofs.Common.{◌≡◌, ◌+◌, ◌<◌, ◌≤◌, ◌∷◌, ◌∙◌}
+use Rattle.msrp_plan.proofs.Common.{ℕ, Bool, true, false, nat_eq, List, [], Option, Some, refl, ap, sym, subst, arith, length, slice_get, vec_capacity, list_any, AllByRecursion, Contains, true≢false, and_from, false_from_ne_true, ForSome, PlanModel, units, jobs_on, is_waiting, IsPlan, is_global, same_res, res_of_unit, is_global_unit, allows, does_unit, phase_with, state_with}
 use Rattle.msrp_plan.specs.declared.ids.CoreId.{CoreId}
 use Rattle.msrp_plan.specs.declared.ids.JobId.{JobId}
 use Rattle.msrp_plan.specs.declared.ids.ResId.{ResId}
@@ -10,14 +10,14 @@ use Rattle.msrp_plan.specs.declared.units.Op.{Op}
 use Rattle.msrp_plan.specs.declared.units.Phase.{Phase}
 use Rattle.msrp_plan.specs.declared.units.Phase.TheVariants.{Free, Queued, Holding}
 use Rattle.std.proofs.lemmas.Bool.{eq-eqb}
-use Rattle.msrp_ready.specs.Ready.{ReadyModel, head, is_among}
+use Rattle.msrp_ready.specs.Ready.{ReadyModel, head}
 use Rattle.msrp_plan.specs.Actions.{does_unit_after}
 use Rattle.msrp_plan.specs.declared.units.Op.TheVariants.{Run as RunUnit, Lock as LockUnit, Unlock as UnlockUnit}
 use Rattle.msrp_stack.specs.Stack.{StackModel, StartedJob, HasRoom, IsInnermost, newest, with_held, without_held, without_first}
-use Rattle.msrp_core.specs.Active.{ActiveJob, active_of, advanced, done_in, is_newest, is_waiting_phase, is_holding_phase, state_in, HoldSo, AreActive}
-use Rattle.msrp_core.specs.CoreJobs.{active_in, units_done, rising_of, state_of, AreJobs, AreOfCore, IsCurrent, IsRunning, CanAct, Acts, IsNextUnit, DoesNext}
+use Rattle.msrp_core.specs.Active.{ActiveJob, active_of, advanced, is_waiting_phase, is_holding_phase, state_in, HoldSo, AreActive}
+use Rattle.msrp_core.specs.CoreJobs.{active_in, units_done, rising_of, state_of, AreJobs, AreOfCore, IsCurrent, IsRunning, CanAct, Acts, IsNextUnit}
 use Rattle.msrp_core.specs.declared.jobs.Jobs.{Jobs}
-use Rattle.msrp_core.proofs.Running.{begun, begun_holds, of_core, running_done, running_queued}
+use Rattle.msrp_core.proofs.Running.{of_core, running_done, running_queued}
 use Rattle.msrp_core.proofs.Steps.{CanUnlock, IsStep, advance_active, advance_states, grant_step, last_free, lock_room, lock_step, release_phase, release_step, request_room, take_step, unlock_room, unlock_step, work_step}
 
 -- ---- the newest with one resource more, and without the innermost
@@ -358,35 +358,9 @@ next_unit jobs job op can =
       done = running_done jobs job can.jobs_fit run;
     }
 
--- the first one of a job that starts
-pub first_unit : (jobs : Jobs) (job : JobId) (op : Op) → AreJobs jobs → is_among jobs.ready.taken job ≡ false → jobs.phase ≡ Free → slice_get (units jobs.plan.now job) 0 ≡ Some op → IsNextUnit jobs job op
-first_unit jobs job op fit fresh free unit = record {
-  accepted = fit.accepted;
-  levels = fit.levels;
-  newest = begun job;
-  below = active_in jobs;
-  same = refl;
-  holds = begun_holds jobs job fit free;
-  unit = unit;
-  queued = ap (λ p. is_waiting_phase p && is_newest (active_in jobs) job) free ∙ sym (ap is_waiting_phase free);
-  done = ap (λ b. cond b (done_in jobs.plan.now (active_in jobs) job) 0) fresh;
-}
-
 module _ (jobs : Jobs) (job : JobId) (op : Op) (next : IsNextUnit jobs job op) where
   pub next_at : slice_get (units jobs.plan.now next.newest.job) next.newest.done ≡ Some op
   next_at = ap (λ j. slice_get (units jobs.plan.now j) next.newest.done) next.same ∙ next.unit
-
-  -- its row, whatever is replied
-  pub next_by : (tick : ℕ) (r : Row) (k : Kind) (res : Option ResId) → IsRow r tick jobs job k res → same_res res (res_of_unit op) ≡ true → allows (is_global_unit jobs.plan.now op) (is_waiting_phase jobs.phase) op k ≡ true → DoesNext jobs job tick r
-  next_by tick r k res row same may = record {
-    row_tick = row.tick_is;
-    row_core = row.core_is;
-    row_job = row.job_is;
-    action =
-        ap (λ b. does_unit_after jobs.plan.now job b (state_of jobs job).done r) next.queued
-        ∙ (ap (λ n. does_unit_after jobs.plan.now job (is_waiting_phase jobs.phase) n r) next.done
-        ∙ (ap (does_unit jobs.plan.now (is_waiting_phase jobs.phase) r) next.unit ∙ does_by jobs.plan.now (is_waiting_phase jobs.phase) r op k res row.res_is row.kind_is same may));
-  }
 
 -- an unlock of what the core doesn't hold is local
 pub unlock_local : (jobs : Jobs) (job : JobId) (res : ResId) → IsNextUnit jobs job (UnlockUnit res) → is_holding_phase res jobs.phase ≡ false → is_global jobs.plan.now res.0 ≡ false

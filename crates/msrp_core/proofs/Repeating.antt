@@ -1,6 +1,6 @@
 -- A core whose last row stands again.
 use Rattle.std.proofs.Common.{◌%◌, ◌^◌, ◌≡◌, ◌+◌, ◌-◌, ◌<◌, ◌≤◌, ◌==◌, ◌&&◌, ◌∷◌, ◌++◌, ◌∙◌}
-use Rattle.msrp_plan.proofs.Common.{reverse, ℕ, Some, None, Option, slice_get, Bool, false, not, cond, List, [], nat_le, refl, ap, sym, subst, arith, length, length-append, true, IfSome, Contains, ForSome, option_or, true≢false, and-true, eqb-false, leb-false, le-leb, lt-leb, false_from_ne_true, none-some, same_Some, PlanModel, units, release, jobs_on, is_queued, done, choice, phase_with, IsCoreTurn, has_shape, may_carry, JobState, state_after, in_tick, is_global, known_task, same_row, any_in}
+use Rattle.msrp_plan.proofs.Common.{reverse, ℕ, Some, None, Option, slice_get, Bool, false, not, cond, List, [], nat_le, refl, ap, sym, subst, arith, length, length-append, true, IfSome, ForSome, option_or, true≢false, and-true, eqb-false, leb-false, lt-leb, false_from_ne_true, none-some, same_Some, PlanModel, units, release, jobs_on, is_queued, done, choice, phase_with, IsCoreTurn, has_shape, may_carry, JobState, state_after, in_tick, is_global, known_task, same_row, any_in}
 use Rattle.msrp_plan.specs.declared.ids.JobId.{JobId}
 use Rattle.msrp_plan.specs.declared.ids.CoreId.{CoreId}
 use Rattle.msrp_plan.specs.declared.ids.ResId.{ResId}
@@ -157,17 +157,6 @@ none_released ready since tick at before none j on late =
     let waits : has_come ready.tick (release ready.plan j) ≡ false = ap (λ o. has_come o (release ready.plan j)) at ∙ lt-leb (release ready.plan j) since (omega (arith, before, late)) in
     let later : nat_le (release ready.plan j) tick ≡ false = sym (and-true (nat_le (release ready.plan j) tick)) ∙ (ap (λ b. nat_le (release ready.plan j) tick && not b) (sym waits) ∙ off) in
     let l = leb-false (release ready.plan j) tick later in omega (arith, l)
-
--- ---- a job whose release is later than all that came is released then
-come_before : (o : Option ℕ) (tick r : ℕ) → ForSome o (λ before. before ≤ tick) → tick < r → has_come o r ≡ false
-come_before None tick r past later = refl
-come_before (Some before) tick r past later = let p = past before refl in lt-leb r before (omega (arith, p, later))
-
-pub released_then : (ready : ReadyModel) (tick : ℕ) (j : JobId) → ForSome ready.tick (λ before. before ≤ tick) → Contains (jobs_on ready.plan ready.core) j → tick < release ready.plan j → has_release_by ready (release ready.plan j) ≡ true
-released_then ready tick j past on later =
-    let r = release ready.plan j in
-    let now : nat_le r r ≡ true = le-leb r r (omega arith) in
-    any_in (λ i. nat_le (release ready.plan i) r && not (has_come ready.tick (release ready.plan i))) (jobs_on ready.plan ready.core) j on (ap (λ b. b && not (has_come ready.tick r)) now ∙ ap not (come_before ready.tick tick r past later))
 
 -- ---- a turn: its row is the next one of whatever log the machine stands after
 module _ (m : Inside) (mid new : Jobs) (chosen : Option JobId) (row : Row) (fit : AreJobs mid) (same : IsSamePlace m.jobs mid) (runs : ForSome chosen (IsRunning mid)) (states : (j : JobId) → state_of mid j ≡ started_with chosen (state_of m.jobs j)) (acts : ActsFor mid new chosen m.tick row) where

@@ -1,6 +1,6 @@
 -- What is stored of the jobs of a core: who runs, who is chosen, and a job that starts.
 use Rattle.std.proofs.Common.{◌≡◌, ◌≢◌, ◌+◌, ◌<◌, ◌≤◌, ◌==◌, ◌⊎◌, ◌&&◌, ◌||◌, ◌∷◌, ◌++◌, ◌∙◌, ◌-◌}
-use Rattle.msrp_plan.proofs.Common.{ℕ, Bool, true, false, cond, not, nat_eq, nat_lt, max, List, [], Option, Some, None, refl, ap, sym, subst, arith, length, length-append, map, reverse, inl, inr, Vec, Global, vec_capacity, list_any, filter, AllByRecursion, Contains, ForSome, true≢false, and-true, and-false, or-true, or-false, cases_Bool, ltb-true, and_from, and_parts, false_from_ne_true, not-true, or_parts, length-map, none-some, same_Some, PlanModel, units, no_task, release, jobs_on, same_job, is_job, is_released, level, is_global, local_ceiling, greatest, resources, raised_with, ceiling_with, is_before, first_ready, first_unfinished, choice, comes_first, JobState, state_after, IsPlan, all_weaker, any_in, least_in, least_of_those, least_passes, before_order, same_is, same_self, same_symm, on_its_core, known_task}
+use Rattle.msrp_plan.proofs.Common.{ℕ, Bool, true, false, cond, not, nat_eq, nat_lt, max, List, [], Option, Some, None, refl, ap, sym, subst, arith, length, length-append, map, reverse, inl, inr, Vec, Global, vec_capacity, list_any, filter, AllByRecursion, Contains, ForSome, true≢false, and-true, and-false, or-true, or-false, cases_Bool, ltb-true, and_from, and_parts, false_from_ne_true, not-true, or_parts, length-map, none-some, same_Some, PlanModel, units, no_task, jobs_on, same_job, is_job, is_released, level, is_global, local_ceiling, greatest, resources, raised_with, ceiling_with, is_before, first_ready, first_unfinished, choice, comes_first, JobState, state_after, IsPlan, all_weaker, any_in, least_in, least_of_those, least_passes, before_order, same_is, same_self, same_symm, on_its_core, known_task}
 use Rattle.std.specs.List.{IsDistinct}
 use Rattle.msrp_plan.specs.declared.ids.JobId.{JobId}
 use Rattle.msrp_plan.specs.declared.rows.Row.{Row}
@@ -65,9 +65,6 @@ pub running_done : (jobs : Jobs) (j : JobId) → AreJobs jobs → (run : IsRunni
 running_done jobs j fit run =
     ap (λ b. cond b (done_in jobs.plan.now (active_in jobs) j) 0) (running_known jobs j fit run).1
     ∙ (ap (λ l. done_in jobs.plan.now l j) run.active ∙ ap (λ b. cond b run.newest.done (done_in jobs.plan.now run.below j)) (ap (λ k. same_job j k) run.same ∙ same_self j))
-
-pub newest_known : (jobs : Jobs) (j : JobId) → AreJobs jobs → newest jobs.stack.started ≡ Some j → Contains (jobs_on jobs.plan.now jobs.core.0) j
-newest_known jobs j fit e = (running_known jobs j fit (running_of jobs j fit.size e)).0
 
 -- ---- the choice
 pub chosen_by : (plan : PlanModel) (above : ℕ) (h : JobId) (s : Option JobId) (b : Bool) → is_preferred plan above h s ≡ b → chosen plan above (Some h) s ≡ cond b (Some h) s
@@ -477,9 +474,9 @@ advanced_on jobs n s below e more next =
 
 -- what decides the choice, as it is stored
 pub state_told : (jobs : Jobs) (tick : ℕ) (log : List Row) (s : CoreState) → AreJobs jobs → s.running ≡ stack.top jobs.stack → s.head ≡ first_ready jobs.ready.plan jobs.ready.core tick (is_among jobs.ready.taken) → s.ceiling ≡ current_ceiling jobs.stack
-    → (s.running ≡ None → s.done ≡ 0) → ((j : JobId) → s.running ≡ Some j → (state_of jobs j).done ≡ s.done × Contains (jobs_on jobs.plan.now jobs.core.0) j) → ((j : JobId) → Contains (jobs_on jobs.ready.plan jobs.ready.core) j → tick < release jobs.ready.plan j → s.until ≤ release jobs.ready.plan j)
+    → (s.running ≡ None → s.done ≡ 0) → ((j : JobId) → s.running ≡ Some j → (state_of jobs j).done ≡ s.done × Contains (jobs_on jobs.plan.now jobs.core.0) j)
     → AreToldBy jobs log → IsCoreState jobs.plan.now jobs.core.0 tick log s
-state_told jobs tick log s fit running head above none count quiet told =
+state_told jobs tick log s fit running head above none count told =
     let plan = jobs.plan.now in
     let c = jobs.core.0 in
     let taken = jobs.ready.taken in
@@ -489,6 +486,4 @@ state_told jobs tick log s fit running head above none count quiet told =
       ceiling = above ∙ sym (ceiling_is plan c log taken jobs.phase (active_in jobs) fit.accepted fit.are told ∙ ceiling_of jobs fit);
       none = none;
       done = λ j e. let own = count j e in sym (ap (λ (k : JobState). k.done) (at_in (λ j. state_after log j ≡ state_of jobs j) (jobs_on plan c) j told own.1) ∙ own.0);
-      until = subst (λ k. (j : JobId) → Contains (jobs_on plan k) j → tick < release plan j → s.until ≤ release plan j) fit.ready_core
-          (subst (λ p. (j : JobId) → Contains (jobs_on p jobs.ready.core) j → tick < release p j → s.until ≤ release p j) fit.ready_plan quiet);
     }

@@ -12,7 +12,7 @@ use Rattle.msrp_plan.specs.States.{moved_by}
 use Rattle.msrp_plan.specs.declared.units.Op.TheVariants.{Run, Lock, Unlock}
 use Rattle.msrp_plan.proofs.TaskUnits.PlanUnits.{units_flat}
 use Rattle.msrp_ready.specs.Ready.{is_among}
-use Rattle.msrp_core.specs.Active.{ActiveJob, done_in, is_waiting_phase, is_newest, state_in, advanced, AreLocal, HoldsSo, HoldSo, AreActive, is_holding_phase}
+use Rattle.msrp_core.specs.Active.{ActiveJob, done_in, is_waiting_phase, is_newest, state_in, advanced, AreLocal, HoldsSo, HoldSo, AreActive}
 use Rattle.msrp_core.proofs.HeldUnits.{held_test, next_held, locked, unlocked, whole_free}
 use Rattle.msrp_core.proofs.Choices.{at_in, others_done}
 
@@ -180,17 +180,6 @@ module _ (plan : PlanModel) (ok : IsPlan plan) (s : ActiveJob) (below : List Act
   request_phase (Holding g) r h at glob calm =
       let free = (units_flat plan ok s.job.task.0).alone s.done g.0 r at glob h.0.global in
       clash (holds_after (take s.done (units plan s.job)) g.0) (held_test g.0 (take s.done (units plan s.job)) s.held h.0.now ∙ h.0.has) (le-ltb _ _ free)
-
-  -- what the core awaits or holds is global
-  pub awaited_global : (p : Phase) (r : ResId) → HoldSo plan p (s ∷ below) → slice_get (units plan s.job) s.done ≡ Some (Lock r) → is_waiting_phase p ≡ true → is_global plan r.0 ≡ true
-  awaited_global Free r h at waits = absurd (true≢false (sym waits))
-  awaited_global (Queued g) r h at waits = ap (λ (q : ResId). is_global plan q.0) (sym (lock_is g r (slice_get (units plan s.job) s.done) h.0.unit at)) ∙ h.0.global
-  awaited_global (Holding g) r h at waits = absurd (true≢false (sym waits))
-
-  pub held_global : (p : Phase) (r : ResId) → HoldSo plan p (s ∷ below) → is_holding_phase r p ≡ true → is_global plan r.0 ≡ true
-  held_global Free r h holds = absurd (true≢false (sym holds))
-  held_global (Queued g) r h holds = absurd (true≢false (sym holds))
-  held_global (Holding g) r h holds = ap (is_global plan) (sym (eqb-true g.0 r.0 holds)) ∙ h.0.global
 
   pub request_room : (r : ResId) → HoldSo plan Free (s ∷ below) → slice_get (units plan s.job) s.done ≡ Some (Lock r) → CanLock r
   request_room r h at = can_lock r h.0.now at

@@ -1,13 +1,11 @@
 //! What the running job does in its turn: its next unit, or the wait for it.
-ghost use Rattle.std.specs.Prelude.{◌≡◌, ◌≤◌};
-ghost use Rattle.msrp_plan.specs.Common.{List, Some, None, true, false, length, Contains, ForSome, allows, jobs_on, is_global, IsCoreTurn, has_shape, may_carry};
+ghost use Rattle.std.specs.Prelude.{◌≡◌};
+ghost use Rattle.msrp_plan.specs.Common.{Some, None, true, false, ForSome, is_global, has_shape, may_carry};
 ghost use Rattle.msrp_plan.specs.declared.ids.ResId.{ResId as Resource};
-ghost use Rattle.msrp_plan.specs.declared.rows.Row.{Row as TraceRow};
-ghost use Rattle.msrp_ready.specs.Ready.{is_among};
 ghost use Rattle.msrp_core.specs.Active.{is_holding_phase, is_waiting_phase};
 ghost use Rattle.msrp_core.specs.Ports.{claim_in, IsQuiet, MakesCall};
 ghost use Rattle.msrp_core.specs.Actions.{EachRowOf, IsRowOf};
-ghost use Rattle.msrp_core.specs.CoreJobs.{Acts, ActsFor, AreJobs, AreToldBy, CanAct, CanCall, DoesNext, IsNextUnit, IsRunning, IsTurnOf};
+ghost use Rattle.msrp_core.specs.CoreJobs.{Acts, ActsFor, AreJobs, CanAct, CanCall, IsRunning};
 
 use crate::jobs::Jobs;
 use crate::port::{Port, Reply};
@@ -326,91 +324,6 @@ impl<'a> Jobs<'a> {
             } else {
                 self.unlock(job, res)
             },
-        }
-    }
-
-    // How a job locks, where each call of a port is answered by yes.
-    fn kind_of_lock(&self, job: JobId, res: ResId) -> Kind
-        requires { IsNextUnit self.now job (Op.Lock res) }
-        ensures { allows (is_global self.now.plan.now res.0) (is_waiting_phase self.now.phase) (Op.Lock res) result ≡ true }
-    {
-        if self.is_waiting() {
-            Kind::Grant
-        } else if self.levels.is_global(res) {
-            Kind::Take
-        } else {
-            Kind::Lock
-        }
-    }
-
-    // How it unlocks.
-    fn kind_of_unlock(&self, job: JobId, res: ResId) -> Kind
-        requires { IsNextUnit self.now job (Op.Unlock res) }
-        ensures { allows (is_global self.now.plan.now res.0) (is_waiting_phase self.now.phase) (Op.Unlock res) result ≡ true }
-    {
-        if self.is_holding(res) {
-            Kind::Release
-        } else {
-            Kind::Unlock
-        }
-    }
-
-    // The row of a job's next unit, where each call of a port is answered by yes.
-    #[inline(always)]
-    fn unit_row(&self, tick: u32, job: JobId, op: Op) -> Row
-        requires { IsNextUnit self.now job op }
-        ensures { DoesNext self.now job tick result }
-    {
-        match op {
-            Op::Run => row_on(self.core, tick, Kind::Run, job, None),
-            Op::Lock(res) => {
-                let kind = self.kind_of_lock(job, res);
-                row_on(self.core, tick, kind, job, Some(res))
-            }
-            Op::Unlock(res) => {
-                let kind = self.kind_of_unlock(job, res);
-                row_on(self.core, tick, kind, job, Some(res))
-            }
-        }
-    }
-
-    // The row of a job's first unit, as it starts, apart from the code of the ticks in which none does.
-    #[inline(never)]
-    fn first_row(&self, tick: u32, job: JobId) -> Row
-        requires jobs { AreJobs self.now }
-        requires known { Contains (jobs_on self.now.plan.now self.now.core.0) job }
-        requires fresh { is_among self.now.ready.taken job ≡ false }
-        requires free { self.now.phase ≡ Phase.Free }
-        ensures { DoesNext self.now job tick result }
-    {
-        self.unit_row(tick, job, self.plan.unit(job.task, 0))
-    }
-
-    // The row of the next unit of who runs, and an idle row where nobody does.
-    #[inline(always)]
-    fn row_of(&self, tick: u32, running: Option<JobId>) -> Row
-        requires jobs { AreJobs self.now }
-        requires running { ForSome running (IsRunning self.now) }
-        ensures { IsTurnOf self.now running tick result }
-    {
-        match running {
-            None => idle_row(self.core, tick),
-            Some(job) => self.unit_row(tick, job, self.unit(job)),
-        }
-    }
-
-    /// The row of the turn in this tick, where each call of a port is answered by yes. No job is released by that, and none
-    /// starts.
-    #[inline(always)]
-    pub(crate) fn foresee(&self, tick: u32) -> Row
-        requires jobs { AreJobs self.now }
-        requires tick { ForSome self.now.ready.tick (λ before. before ≤ tick) }
-        ensures { (log : List TraceRow) → AreToldBy self.now log → tick ≡ length log → IsCoreTurn self.now.plan.now self.now.core.0 log result }
-    {
-        let running = self.stack.top();
-        match self.starting(self.ready.head_at(tick), running) {
-            Some(job) => self.first_row(tick, job),
-            None => self.row_of(tick, running),
         }
     }
 

@@ -1,13 +1,11 @@
 //! The jobs of a core between two of its turns: which are ready, which are started, and how far these are.
-ghost use Rattle.std.specs.Prelude.{◌≡◌, ◌<◌, ◌≤◌, ◌+◌, ◌||◌, ◌∷◌};
-ghost use Rattle.msrp_plan.specs.Common.{[], ℕ, List, Some, None, true, false, length, reverse, IfOk, slice_get, vec_capacity, ForSome, option_or, Contains, release, units, jobs_on, is_job, choice, comes_first, is_global};
-ghost use Rattle.std.specs.Option.{IfSome};
-ghost use Rattle.msrp_plan.specs.Choice.{first_ready};
+ghost use Rattle.std.specs.Prelude.{◌≡◌, ◌<◌, ◌≤◌, ◌+◌, ◌∷◌};
+ghost use Rattle.msrp_plan.specs.Common.{[], List, Some, None, true, length, IfOk, vec_capacity, ForSome, Contains, units, jobs_on, choice, comes_first};
 ghost use Rattle.msrp_plan.specs.declared.ids.JobId.{JobId as Job};
 ghost use Rattle.msrp_plan.specs.declared.rows.Row.{Row as TraceRow};
-ghost use Rattle.msrp_ready.specs.Ready.{head, is_among};
+ghost use Rattle.msrp_ready.specs.Ready.{head};
 ghost use Rattle.msrp_stack.specs.Stack.{current_ceiling, newest, top};
-ghost use Rattle.msrp_core.specs.Active.{ActiveJob, advanced, state_in};
+ghost use Rattle.msrp_core.specs.Active.{ActiveJob, advanced};
 ghost use Rattle.msrp_core.specs.CoreStates.{IsCoreState};
 ghost use Rattle.msrp_core.specs.CoreJobs.{AreJobs, AreOfCore, AreToldBy, CanAct, IsCurrent, IsRunning, IsSamePlace, IsSameStack, active_in, is_preferred, rising_of, started_with, state_of};
 
@@ -85,17 +83,6 @@ impl<'a> Jobs<'a> {
         }
     }
 
-    // Whether the head is preferred to who runs: its level is above the ceiling, and it comes before who runs.
-    #[inline(always)]
-    fn is_next(&self, job: JobId, running: Option<JobId>) -> bool
-        requires jobs { AreJobs self.now }
-        requires known { Contains (jobs_on self.now.plan.now self.now.core.0) job }
-        requires running { ForSome running (Contains (jobs_on self.now.plan.now self.now.core.0)) }
-        ensures { result ≡ is_preferred self.now.plan.now (current_ceiling self.now.stack) job running }
-    {
-        self.levels.level(job.task) > self.stack.ceiling() && self.comes_first(job, running)
-    }
-
     // The head, where it comes before who runs; else none. It is seldom asked for.
     #[inline(never)]
     fn next_rising(&self) -> Option<JobId>
@@ -141,23 +128,6 @@ impl<'a> Jobs<'a> {
         // The next head comes behind the one that starts.
         self.rising = None;
         self.units = self.plan.units_of(job.task);
-    }
-
-    /// The head, where it is preferred to who runs and so starts; else none, and who runs has the turn.
-    #[inline(always)]
-    pub(crate) fn starting(&self, head: Option<JobId>, running: Option<JobId>) -> Option<JobId>
-        requires jobs { AreJobs self.now }
-        requires known { ForSome head (Contains (jobs_on self.now.plan.now self.now.core.0)) }
-        requires newest { running ≡ newest self.now.stack.started }
-        requires top { running ≡ top self.now.stack }
-        ensures head { IfSome result (λ job. head ≡ Some job) }
-        ensures next { IfSome result (λ job. is_preferred self.now.plan.now (current_ceiling self.now.stack) job running ≡ true) }
-        ensures choice { (tick : ℕ) (log : List TraceRow) → AreToldBy self.now log → head ≡ first_ready self.now.ready.plan self.now.ready.core tick (is_among self.now.ready.taken) → option_or result running ≡ choice self.now.plan.now self.now.core.0 tick log }
-    {
-        match head {
-            Some(job) if self.is_next(job, running) => Some(job),
-            _ => None,
-        }
     }
 
     // Releases the jobs up to this tick. Where none is due, the head stays.
@@ -207,17 +177,6 @@ impl<'a> Jobs<'a> {
         self.progress
     }
 
-    // A tick before which no job of the core is released after this one.
-    fn quiet_until(&self, tick: u32) -> u64
-        requires { ForSome self.now.ready.tick (λ before. before ≤ tick) }
-        ensures { (job : Job) → Contains (jobs_on self.now.ready.plan self.now.ready.core) job → tick < release self.now.ready.plan job → result ≤ release self.now.ready.plan job }
-    {
-        match self.ready.next_release() {
-            Some(next) => next.max(u64::from(tick) + 1),
-            None => u64::MAX,
-        }
-    }
-
     /// What decides who has the turn in this tick. No job is released by that.
     #[inline(always)]
     pub(crate) fn state(&self, tick: u32) -> CoreState
@@ -230,7 +189,6 @@ impl<'a> Jobs<'a> {
             running,
             head: self.ready.head_at(tick),
             ceiling: self.stack.ceiling(),
-            until: self.quiet_until(tick),
             done: match running {
                 Some(_) => self.progress(),
                 None => 0,

@@ -1,7 +1,6 @@
 //! The machine of one core, which makes the rows of its turns.
-ghost use Rattle.std.specs.Prelude.{◌≡◌, ◌<◌, ◌≤◌, ◌+◌, ◌++◌, ◌∷◌};
+ghost use Rattle.std.specs.Prelude.{◌≡◌, ◌<◌, ◌+◌, ◌++◌, ◌∷◌};
 ghost use Rattle.msrp_plan.specs.Common.{[], List, Some, None, IfOk, IfSome, IfNone, length, true, IsSomeAnd, is_global, IsCoreTurn};
-ghost use Rattle.std.specs.Option.{is_some};
 ghost use Rattle.msrp_plan.specs.declared.ids.ResId.{ResId as Resource};
 ghost use Rattle.msrp_plan.specs.declared.rows.Row.{Row as TraceRow};
 ghost use Rattle.msrp_core.specs.Ports.{claim_in, IsQuiet, MakesCall};
@@ -101,21 +100,6 @@ impl<'a> Machine<'a> {
         ensures { (log : List TraceRow) → StandsAfter self.now log → IsCoreState self.now.plan self.now.core (length log) log result }
     {
         self.jobs.state(self.tick)
-    }
-
-    /// The row of the core's next turn, where one is left. Where the turn is a call of a port the row is that of an answer by
-    /// yes: it takes or is granted what it asks for. Nothing is released by that, and no job starts.
-    #[inline(always)]
-    pub fn foresee(&self) -> Option<Row>
-        ensures row { IfSome result (λ row. (log : List TraceRow) → StandsAfter self.now log → IsCoreTurn self.now.plan self.now.core log row) }
-        ensures left { IfSome result (λ _. self.now.tick < self.now.plan.ticks) }
-        ensures none { IfNone result (self.now.plan.ticks ≤ self.now.tick) }
-    {
-        if self.tick < self.jobs.plan.ticks() {
-            Some(self.jobs.foresee(self.tick))
-        } else {
-            None
-        }
     }
 
     /// The core's next turn, where it is known from the last one that its row stands again: the job has work next, or the

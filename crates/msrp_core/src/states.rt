@@ -12,6 +12,4 @@ pub struct CoreState {
     pub ceiling: u32,
     /// How many of its units the job that runs has done; 0 where none runs.
     pub done: u32,
-    /// After the tick of the turn no job of the core is released before this one.
-    pub until: u64,
 }

@@ -1,6 +1,6 @@
 -- What is found in rows that are judged as they come.
-use Rattle.std.proofs.Common.{◌≡◌, ◌⊎◌, ◌++◌, ◌∷◌, ◌+◌, ◌-◌, ◌*◌, ◌<◌, ◌∙◌}
-use Rattle.msrp_plan.proofs.Common.{[], ℕ, cond, length, List, Option, None, Some, refl, ap, sym, subst, inl, inr, arith, cases_lt, le-ltb, ⊤, PlanModel, broken, fault_in, fault_or, verdict, fault_push, fault_stays}
+use Rattle.std.proofs.Common.{◌≡◌, ◌⊎◌, ◌++◌, ◌∷◌, ◌+◌, ◌-◌, ◌*◌, ◌/◌, ◌<◌, ◌==◌, ◌&&◌, ◌∙◌}
+use Rattle.msrp_plan.proofs.Common.{[], ℕ, cond, length, List, Option, None, Some, refl, ap, sym, subst, inl, inr, arith, cases_lt, le-ltb, ⊤, true, not, nat_lt, PlanModel, broken, fault_in, fault_or, had_turn, is_in_turn, verdict, fault_push, fault_stays}
 use Rattle.msrp_plan.specs.declared.faults.Fault.{Fault}
 use Rattle.msrp_plan.specs.declared.faults.Rule.TheVariants.{A7}
 use Rattle.msrp_plan.specs.declared.rows.Row.{Row}
@@ -98,3 +98,9 @@ unopened-found remaining plan records error answer h gives = elim (unopened rema
     | inr told ↦ inr (inr (gives ∙ sym (ap (finding plan) told)))
   ]
 ]
+
+-- a row of the same tick and core as one that is in its turn is so too
+pub turn-as : (plan : PlanModel) (rows : List Row) (due r : Row) → r.core.0 ≡ due.core.0 → r.tick ≡ due.tick → is_in_turn plan rows due ≡ true → is_in_turn plan rows r ≡ true
+turn-as plan rows due r core tick turn =
+    ap (λ n. (n == length rows / plan.cores) && (nat_lt r.core.0 plan.cores && not (had_turn r.core.0 n rows))) tick
+    ∙ (ap (λ n. (due.tick == length rows / plan.cores) && (nat_lt n plan.cores && not (had_turn n due.tick rows))) core ∙ turn)

@@ -3,7 +3,7 @@ use Rattle.std.proofs.Common.{◌≡◌, ◌++◌, ◌∷◌, ◌+◌, ◌-◌, 
 use Rattle.msrp_plan.proofs.Common.{[], ℕ, length, List, Option, None, Some, refl, ap, sym, subst, length-append, ⊤, PlanModel, fault_in, verdict}
 use Rattle.std.specs.declared.result.Result.{Result}
 use Rattle.std.specs.declared.result.Result.TheVariants.{Ok, Err}
-use Rattle.msrp_audit.specs.Audits.{HasFed, answer_of}
+use Rattle.msrp_audit.specs.Audits.{HasFed, IsBroken, answer_of}
 use Rattle.msrp_plan.specs.declared.faults.Fault.{Fault}
 use Rattle.msrp_plan.specs.declared.rows.Row.{Row}
 use Rattle.msrp_trace.specs.Reading.{Told}
@@ -11,6 +11,7 @@ use Rattle.msrp_trace.specs.declared.faults.TraceError.{TraceError}
 use Rattle.msrp_trace.proofs.ReadThrough.{Answers, IsReadTo, none-read, read-row, read-whole}
 use Rattle.msrp_engine.specs.Findings.{finding}
 use Rattle.msrp_engine.specs.Judging.{IsJudged, row_told, rows_left}
+use Rattle.msrp_engine.specs.declared.judged.Broken.{Broken as Refused}
 use Rattle.msrp_engine.specs.declared.judged.Judgement.{Judgement}
 use Rattle.msrp_engine.specs.declared.judged.Judgement.TheVariants.{Legal, Broken, End}
 use Rattle.msrp_engine.specs.declared.judged.JudgedRows.{JudgedRows}
@@ -65,13 +66,13 @@ fewer-turns remaining begun old new rows result row came next is =
     (subst (λ n. n < old.auditor.plan.cores * old.auditor.plan.ticks) (sym was) left)
 
 -- a row that breaks a rule is what is found
-pub broken-found : {T : Type 0} (remaining : T → Option (List ℕ)) (begun old new : JudgedRows T) (rows : List Row) (result : Result Judgement TraceError) (row : Row) (fault : Fault) (told : Told)
-    → HaveCome remaining begun old rows → Gives remaining old new rows result → result ≡ Ok (Broken row fault) → rows_left remaining begun ≡ Some told
-    → finding begun.auditor.plan told ≡ Ok (Err fault)
-broken-found remaining begun old new rows result row fault told came next is known =
-    let judged : fault_in old.auditor.plan (rows ++ row ∷ []) ≡ Some fault = subst (λ r. IsJudged old.auditor.plan rows r new) is next.judged in
+pub broken-found : {T : Type 0} (remaining : T → Option (List ℕ)) (begun old new : JudgedRows T) (rows : List Row) (result : Result Judgement TraceError) (row : Row) (broken : Refused) (told : Told)
+    → HaveCome remaining begun old rows → Gives remaining old new rows result → result ≡ Ok (Broken row broken) → rows_left remaining begun ≡ Some told
+    → finding begun.auditor.plan told ≡ Ok (Err broken.fault)
+broken-found remaining begun old new rows result row broken told came next is known =
+    let judged : IsBroken old.auditor.plan rows row broken.fault broken.expected new.auditor = subst (λ r. IsJudged old.auditor.plan rows r new) is next.judged in
     let more = read-row told rows _ _ (row_told result) row (came.read told known) next.answers (ap row_told is) in
-    subst (λ (p : PlanModel). finding p told ≡ Ok (Err fault)) came.plan (fault-found old.auditor.plan told (rows ++ row ∷ []) more.rest fault more.whole judged)
+    subst (λ (p : PlanModel). finding p told ≡ Ok (Err broken.fault)) came.plan (fault-found old.auditor.plan told (rows ++ row ∷ []) more.rest broken.fault more.whole judged.fault)
 
 -- at the end the verdict on all rows is
 pub end-found : {T : Type 0} (remaining : T → Option (List ℕ)) (begun old new : JudgedRows T) (rows : List Row) (result : Result Judgement TraceError) (told : Told)

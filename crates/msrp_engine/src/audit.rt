@@ -32,7 +32,7 @@ fn judge_rows<T: Read>(rows: &mut JudgedRows<'_, '_, T>) -> Result<Result<(), Fa
     loop {
         match rows.next_row()? {
             Judgement::Legal(_row) => {}
-            Judgement::Broken(_row, fault) => return Ok(Err(fault)),
+            Judgement::Broken(_row, broken) => return Ok(Err(broken.fault)),
             Judgement::End => return Ok(rows.auditor().end()),
         }
     }

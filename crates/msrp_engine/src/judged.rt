@@ -2,20 +2,29 @@
 //!
 //! The text says which core's row is next. That core runs, which gives its one legal row, and the text of that row is compared with the text that is
 //! next. So a legal row is never read field by field. As long as a core's rows differ in their ticks alone, its text is made once.
-ghost use Rattle.std.specs.Prelude.{◌≡◌, ◌<◌, ◌*◌, ◌++◌, ◌∷◌, ◌/◌, ◌%◌};
-ghost use Rattle.msrp_plan.specs.Common.{ℕ, List, [], IfErr, IfOk, IfSome, Some, None, Ok, Err, true, false, source_failed, IsPlan, is_in_turn, IsSomeAnd, length, in_tick};
+ghost use Rattle.std.specs.Prelude.{◌≡◌, ◌<◌, ◌*◌, ◌/◌, ◌%◌};
+ghost use Rattle.msrp_plan.specs.Common.{ℕ, List, IfSome, Some, None, Ok, Err, true, false, source_failed, IsPlan, is_in_turn, IsSomeAnd, length, in_tick};
 ghost use Rattle.msrp_audit.specs.Audits.{Awaits, HasFed, IsDueInAudit};
 ghost use Rattle.msrp_plan.specs.declared.rows.Row.{Row as TraceRow};
 ghost use Rattle.msrp_trace.specs.Reading.{Told};
-ghost use Rattle.msrp_trace.specs.Readers.{BeginsAt, GivesNext, source_of};
+ghost use Rattle.msrp_trace.specs.Readers.{BeginsAt, GivesNext, HasReadBehind, HasReadIn, source_of};
+ghost use Rattle.msrp_core.specs.CoreStates.{IsStateAfter};
 ghost use Rattle.msrp_trace.specs.Texts.{text_of_core};
 ghost use Rattle.msrp_engine.specs.Inside.Kept.{IsKept, KeepsRows, row_of_core};
 
 use msrp_audit::Auditor;
+use msrp_core::CoreState;
 use msrp_plan::limits::MOST_CORES;
 use msrp_plan::{CoreId, Fault, Plan, Row};
 use msrp_trace::{RowTexts, TraceError, TraceReader};
 use std::io::Read;
+
+/// Why a row is refused: its fault, and the row expected of its core, where the row is in its turn.
+#[derive(Clone, Copy, Debug)]
+pub struct Broken {
+    pub fault: Fault,
+    pub expected: Option<Row>,
+}
 
 /// What is next in the text of a trace.
 #[derive(Clone, Copy, Debug)]
@@ -23,7 +32,7 @@ pub enum Judgement {
     /// A row that obeys each rule.
     Legal(Row),
     /// A row that violates a rule. It is the last that is judged.
-    Broken(Row, Fault),
+    Broken(Row, Broken),
     /// The end of the text.
     End,
 }
@@ -50,6 +59,8 @@ pub struct JudgedRows<'p, 't, T> {
     // Of each core its last row that was chosen, and the text of that, but for the tick.
     lasts: [Option<Row>; MOST_CORES as usize],
     texts: RowTexts<'p>,
+    // What decided before the last row who had its core's turn, if that was asked.
+    state: Option<CoreState>,
     ghost plan: { rows.plan.now ≡ auditor.plan },
     ghost texts_plan: { texts.plan ≡ auditor.plan },
     ghost version: { texts.version ≡ rows.version },
@@ -76,7 +87,7 @@ fn kept_row(lasts: &[Option<Row>], core: CoreId) -> Option<Row>
 }
 
 impl<'p, 't, T: Read> JudgedRows<'p, 't, T> {
-    ghost use Rattle.msrp_engine.specs.Judging.{IsJudged, rows_left, row_told};
+    ghost use Rattle.msrp_engine.specs.Judging.{IfCame, IsJudged, rows_left, row_told};
 
     /// The rows that a reader has left, judged by this auditor. Both are of this plan.
     pub fn new(
@@ -95,6 +106,7 @@ impl<'p, 't, T: Read> JudgedRows<'p, 't, T> {
             rows,
             lasts: [None; MOST_CORES as usize],
             texts,
+            state: None,
         }
     }
 
@@ -105,6 +117,32 @@ impl<'p, 't, T: Read> JudgedRows<'p, 't, T> {
         &self.auditor
     }
 
+    /// The reader of the rows.
+    pub fn reader(&self) -> &TraceReader<'t, T>
+        ensures { result.now ≡ self.now.rows }
+    {
+        &self.rows
+    }
+
+    /// What decided before the last row who had its core's turn, as [`JudgedRows::next_with_state`] found it.
+    pub fn state(&self) -> Option<CoreState>
+        ensures { result ≡ self.now.state }
+    {
+        self.state
+    }
+
+    // Looks what decides who has the core's turn, where that is asked.
+    #[inline(always)]
+    fn look(&mut self, core: CoreId, asked: bool)
+        ensures auditor { self.new.auditor ≡ self.old.auditor }
+        ensures rows { self.new.rows ≡ self.old.rows }
+        ensures state { asked ≡ true → (rows : List TraceRow) → HasFed self.old.auditor rows → self.old.auditor.fault ≡ None → IsStateAfter self.old.auditor.plan rows core.0 self.new.state }
+    {
+        if asked {
+            self.state = self.auditor.state(core);
+        }
+    }
+
     // The core's next row, which is chosen anew. It is kept, and its text is made.
     #[inline(never)]
     fn choose(&mut self, core: CoreId)
@@ -113,6 +151,7 @@ impl<'p, 't, T: Read> JudgedRows<'p, 't, T> {
         ensures plan { self.new.auditor.plan ≡ self.old.auditor.plan }
         ensures fed { self.new.auditor.fed ≡ self.old.auditor.fed }
         ensures rows { self.new.rows ≡ self.old.rows }
+        ensures state { self.new.state ≡ self.old.state }
         ensures core { IsSomeAnd (row_of_core self.new.lasts core.0) (λ last. last.core.0 ≡ core.0) }
         ensures awaits { (rows : List TraceRow) → HasFed self.old.auditor rows → IfSome (row_of_core self.new.lasts core.0) (λ last. Awaits self.new.auditor rows core.0 (in_tick (length rows / self.new.auditor.plan.cores) last)) }
     {
@@ -129,6 +168,7 @@ impl<'p, 't, T: Read> JudgedRows<'p, 't, T> {
         ensures plan { self.new.auditor.plan ≡ self.old.auditor.plan }
         ensures fed { self.new.auditor.fed ≡ self.old.auditor.fed }
         ensures rows { self.new.rows ≡ self.old.rows }
+        ensures state { self.new.state ≡ self.old.state }
         ensures core { IsSomeAnd (row_of_core self.new.lasts core.0) (λ last. last.core.0 ≡ core.0) }
         ensures awaits { (rows : List TraceRow) → HasFed self.old.auditor rows → IfSome (row_of_core self.new.lasts core.0) (λ last. Awaits self.new.auditor rows core.0 (in_tick (length rows / self.new.auditor.plan.cores) last)) }
     {
@@ -162,12 +202,19 @@ impl<'p, 't, T: Read> JudgedRows<'p, 't, T> {
         requires left { self.old.auditor.fed < self.old.auditor.plan.cores * self.old.auditor.plan.ticks }
         ensures plan { self.new.auditor.plan ≡ self.old.auditor.plan }
         ensures rows { self.new.rows ≡ self.old.rows }
+        ensures state { self.new.state ≡ self.old.state }
         ensures told { row_told (Ok result) ≡ Ok (Some row) }
         ensures judged { (rows : List TraceRow) → Awaits self.old.auditor rows row.core.0 expected → row.tick ≡ expected.tick → IsJudged self.old.auditor.plan rows (Ok result) self.new }
     {
         match self.auditor.judge(expected, row) {
             Ok(()) => Judgement::Legal(row),
-            Err(fault) => Judgement::Broken(row, fault),
+            Err(fault) => Judgement::Broken(
+                row,
+                Broken {
+                    fault,
+                    expected: Some(expected),
+                },
+            ),
         }
     }
 
@@ -181,6 +228,9 @@ impl<'p, 't, T: Read> JudgedRows<'p, 't, T> {
         ensures plan { self.new.auditor.plan ≡ self.old.auditor.plan }
         ensures gives { (told : Told) → rows_left T.remaining self.old ≡ Some told → GivesNext told (row_told result) (rows_left T.remaining self.new) }
         ensures judged { (rows : List TraceRow) → IfSome (row_of_core self.old.lasts core.0) (λ last. Awaits self.old.auditor rows core.0 (in_tick tick last)) → IsJudged self.old.auditor.plan rows result self.new }
+        ensures lines { (text : List ℕ) → HasReadIn T.remaining text self.old.rows → HasReadBehind T.remaining text (row_told result) self.new.rows }
+        ensures core { IfCame (λ row. row.core.0 ≡ core.0) result }
+        ensures state { self.new.state ≡ self.old.state }
         ensures read { (told : Told) → rows_left T.remaining self.old ≡ Some told → BeginsAt tick core told → result ≡ Err TraceError.Read → source_failed (source_of self.new.rows) ≡ true }
     {
         let expected = self.expected(tick, core);
@@ -193,18 +243,28 @@ impl<'p, 't, T: Read> JudgedRows<'p, 't, T> {
 
     // The next row, read field by field.
     #[inline(never)]
-    fn read(&mut self) -> Result<Judgement, TraceError>
+    fn read(&mut self, asked: bool) -> Result<Judgement, TraceError>
         requires { IsPlan self.old.auditor.plan }
         ensures plan { self.new.auditor.plan ≡ self.old.auditor.plan }
         ensures gives { (told : Told) → rows_left T.remaining self.old ≡ Some told → GivesNext told (row_told result) (rows_left T.remaining self.new) }
         ensures judged { (rows : List TraceRow) → HasFed self.old.auditor rows → self.old.auditor.fault ≡ None → IsJudged self.old.auditor.plan rows result self.new }
+        ensures lines { (text : List ℕ) → HasReadIn T.remaining text self.old.rows → HasReadBehind T.remaining text (row_told result) self.new.rows }
+        ensures state { asked ≡ true → (rows : List TraceRow) → HasFed self.old.auditor rows → self.old.auditor.fault ≡ None → IfCame (λ row. IsStateAfter self.old.auditor.plan rows row.core.0 self.new.state) result }
         ensures read { result ≡ Err TraceError.Read → source_failed (source_of self.new.rows) ≡ true }
     {
         let Some(row) = self.rows.next_row()? else {
             return Ok(Judgement::End);
         };
+        self.look(row.core, asked);
         if !self.auditor.is_in_turn(row) {
-            return Ok(Judgement::Broken(row, self.auditor.fault_out_of_turn()));
+            let fault = self.auditor.fault_out_of_turn();
+            return Ok(Judgement::Broken(
+                row,
+                Broken {
+                    fault,
+                    expected: None,
+                },
+            ));
         }
         self.expect(row.core);
         let expected = self.expected(row.tick, row.core);
@@ -218,18 +278,46 @@ impl<'p, 't, T: Read> JudgedRows<'p, 't, T> {
         ensures gives { (told : Told) → rows_left T.remaining self.old ≡ Some told → GivesNext told (row_told result) (rows_left T.remaining self.new) }
         ensures judged { (rows : List TraceRow) → HasFed self.old.auditor rows → self.old.auditor.fault ≡ None → IsJudged self.old.auditor.plan rows result self.new }
         ensures read { (told : Told) (rows : List TraceRow) → rows_left T.remaining self.old ≡ Some told → HasFed self.old.auditor rows → self.old.auditor.fault ≡ None → result ≡ Err TraceError.Read → source_failed (source_of self.new.rows) ≡ true }
+        ensures lines { (text : List ℕ) → HasReadIn T.remaining text self.old.rows → HasReadBehind T.remaining text (row_told result) self.new.rows }
+    {
+        self.next_by(false)
+    }
+
+    /// The same, and [`JudgedRows::state`] then tells what decided before that row who had its core's turn.
+    #[inline(never)]
+    pub fn next_with_state(&mut self) -> Result<Judgement, TraceError>
+        ensures plan { self.new.auditor.plan ≡ self.old.auditor.plan }
+        ensures gives { (told : Told) → rows_left T.remaining self.old ≡ Some told → GivesNext told (row_told result) (rows_left T.remaining self.new) }
+        ensures judged { (rows : List TraceRow) → HasFed self.old.auditor rows → self.old.auditor.fault ≡ None → IsJudged self.old.auditor.plan rows result self.new }
+        ensures read { (told : Told) (rows : List TraceRow) → rows_left T.remaining self.old ≡ Some told → HasFed self.old.auditor rows → self.old.auditor.fault ≡ None → result ≡ Err TraceError.Read → source_failed (source_of self.new.rows) ≡ true }
+        ensures lines { (text : List ℕ) → HasReadIn T.remaining text self.old.rows → HasReadBehind T.remaining text (row_told result) self.new.rows }
+        ensures state { (rows : List TraceRow) → HasFed self.old.auditor rows → self.old.auditor.fault ≡ None → IfCame (λ row. IsStateAfter self.old.auditor.plan rows row.core.0 self.new.state) result }
+    {
+        self.next_by(true)
+    }
+
+    // The next row, and how it is judged.
+    #[inline(always)]
+    fn next_by(&mut self, asked: bool) -> Result<Judgement, TraceError>
+        ensures plan { self.new.auditor.plan ≡ self.old.auditor.plan }
+        ensures gives { (told : Told) → rows_left T.remaining self.old ≡ Some told → GivesNext told (row_told result) (rows_left T.remaining self.new) }
+        ensures judged { (rows : List TraceRow) → HasFed self.old.auditor rows → self.old.auditor.fault ≡ None → IsJudged self.old.auditor.plan rows result self.new }
+        ensures read { (told : Told) (rows : List TraceRow) → rows_left T.remaining self.old ≡ Some told → HasFed self.old.auditor rows → self.old.auditor.fault ≡ None → result ≡ Err TraceError.Read → source_failed (source_of self.new.rows) ≡ true }
+        ensures lines { (text : List ℕ) → HasReadIn T.remaining text self.old.rows → HasReadBehind T.remaining text (row_told result) self.new.rows }
+        ensures state { asked ≡ true → (rows : List TraceRow) → HasFed self.old.auditor rows → self.old.auditor.fault ≡ None → IfCame (λ row. IsStateAfter self.old.auditor.plan rows row.core.0 self.new.state) result }
     {
         let tick = self.auditor.tick();
         // What is read by fields has a place of its own: so a row that is met is laid down nowhere.
         let judged;
         let Some(core) = self.rows.core_ahead(tick) else {
-            judged = self.read();
+            judged = self.read(asked);
             return judged;
         };
         if !self.auditor.is_due(core) {
-            judged = self.read();
+            judged = self.read(asked);
             return judged;
         }
+        self.look(core, asked);
         self.expect(core);
         if !self.rows.comes_behind(tick, &self.texts, core) {
             judged = self.read_expected(tick, core);

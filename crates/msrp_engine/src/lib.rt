@@ -20,7 +20,7 @@ mod texts;
 pub use audit::{audit_text, judge_texts};
 pub use audit_parallel::audit_parallel_text;
 pub use check::check_text;
-pub use judged::{JudgedRows, Judgement};
+pub use judged::{Broken, JudgedRows, Judgement};
 pub use made::Made;
 pub use msrp_faults::{CliFault, exit_of, gathered_text, write_answer};
 pub use own_text::plan_text;

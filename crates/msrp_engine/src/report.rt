@@ -1,6 +1,6 @@
 //! The report of a trace's text.
-ghost use Rattle.std.specs.Prelude.{◌≡◌, ◌<◌, ◌≤◌, ◌⊎◌, ◌++◌};
-ghost use Rattle.msrp_plan.specs.Common.{List, [], true, false, Some, Ok, Err, IfOk, IfErr, OnOk, length, sink_failed};
+ghost use Rattle.std.specs.Prelude.{◌≡◌, ◌<◌, ◌⊎◌};
+ghost use Rattle.msrp_plan.specs.Common.{List, [], true, false, Some, Ok, Err, IfOk, IfErr, length, sink_failed};
 ghost use Rattle.msrp_audit.specs.Audits.{HasFed};
 ghost use Rattle.msrp_plan.specs.declared.rows.Row.{Row as TraceRow};
 ghost use Rattle.msrp_report.specs.Lines.{lines_of};
@@ -55,7 +55,7 @@ fn report_rows<T: Read>(
     loop {
         match rows.next_row()? {
             Judgement::Legal(row) => counter.count(row),
-            Judgement::Broken(_row, fault) => return Ok(Err(fault)),
+            Judgement::Broken(_row, broken) => return Ok(Err(broken.fault)),
             Judgement::End => return Ok(ended(counter, rows.auditor().end())),
         }
     }

@@ -22,7 +22,6 @@ state_local_too plan c t rows s own told =
           let states : state_after log j ≡ state_after rows j = All-contains (λ i. state_after log i ≡ state_after rows i) (jobs_on plan c) j (All-from_recursion (λ i. state_after log i ≡ state_after rows i) (jobs_on plan c) same) there in
           told.done j e ∙ ap (λ (k : JobState). k.done) states;
       none = told.none;
-      until = told.until;
     }
 
 -- what the machine of a core tells

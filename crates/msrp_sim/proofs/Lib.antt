@@ -10,5 +10,5 @@ pub mod Starting
 pub mod Rounds
 pub mod Given
 pub mod NextTurn
-pub mod Foreseeing
+pub mod OwnMachine
 pub mod CoreStates

@@ -1,18 +1,13 @@
 -- The cores of a plan over first-in-first-out queues, and the rows that they stand after.
-use Rattle.msrp_plan.specs.Common.{ℕ, List, [], true, Option, Some, None, IfSome, length, slice_get, slice_set, ForSome, PlanModel, is_global, carries_its_ahead, most_rows, IsCoreTurn, IsRunStart, IsLegal, log_of, IsDueCore, FifoLock, free_lock, in_tick, IsPlan, kind_of_call, ahead_of_call}
-use Rattle.msrp_plan.specs.declared.ids.ResId.{ResId}
-use Rattle.msrp_plan.specs.declared.rows.Kind.{Kind}
-use Rattle.msrp_plan.specs.declared.rows.Kind.TheVariants.{Take, Queue, Grant, Spin}
+use Rattle.msrp_plan.specs.Common.{ℕ, List, [], true, Option, Some, None, IfSome, length, slice_get, slice_set, ForSome, PlanModel, is_global, carries_its_ahead, most_rows, IsCoreTurn, IsRunStart, IsLegal, log_of, IsDueCore, FifoLock, free_lock, in_tick, IsPlan}
 use Rattle.msrp_plan.specs.declared.rows.Row.{Row}
-use Rattle.msrp_plan.specs.declared.units.Call.TheVariants.{Ask, Poll}
 use Rattle.msrp_plan.specs.declared.units.Phase.{Phase}
 use Rattle.std.specs.Prelude.{◌∷◌, ◌++◌, ◌≡◌, ◌≢◌, ◌<◌, ◌≤◌, ◌*◌, if◌then◌else◌, sum_by}
-use Rattle.msrp_plan.specs.Aheads.{HasReply}
 use Rattle.msrp_plan.specs.LockStates.{lock_at}
 use Rattle.msrp_plan.specs.Phases.{phase_after}
 use Rattle.msrp_core.specs.Machine.{MachineModel, StandsAfter, next_known}
 use Rattle.msrp_core.specs.declared.port.PortCall.{PortCall}
-use Rattle.msrp_sim.specs.Serving.{AreDrawn, IsServing, Notes, waiting, is_served}
+use Rattle.msrp_sim.specs.Serving.{AreDrawn, IsServing, Notes}
 use Rattle.msrp_sim.specs.TurnPorts.{HasTurned}
 use Rattle.msrp_sim.specs.declared.tickets.Queues.{Queues}
 
@@ -101,24 +96,6 @@ known_row m c = again_of (slice_get m.machines c)
 pub record Leaves (old new : CoresModel) (r : Row) : Type 0 where
   pub own : IfSome (known_row new r.core.0) (λ next. next ≡ in_tick next.tick r)
   pub others : (c : ℕ) → c ≢ r.core.0 → known_row new c ≡ known_row old c
-
--- ---- a row that is foreseen
--- the kind and the ahead that the queues give now to the row of a core, where it asks them
-abbrev pub kind_told : Queues → ℕ → Kind → Option ResId → Kind
-kind_told q c Take (Some g) = kind_of_call (Ask (waiting q g.0))
-kind_told q c Queue (Some g) = kind_of_call (Ask (waiting q g.0))
-kind_told q c Grant (Some g) = kind_of_call (Poll (is_served q c g.0))
-kind_told q c Spin (Some g) = kind_of_call (Poll (is_served q c g.0))
-kind_told q c kind res = kind
-
-abbrev pub ahead_told : Queues → Kind → Option ResId → Option ℕ
-ahead_told q Take (Some g) = ahead_of_call (Ask (waiting q g.0))
-ahead_told q Queue (Some g) = ahead_of_call (Ask (waiting q g.0))
-ahead_told q kind res = None
-
--- the row as another, but with the answer that the queues give now
-abbrev pub IsAnswered : Queues → Row → Row → Type 0
-IsAnswered q asks r = HasReply (kind_told q asks.core.0 asks.kind asks.res) (ahead_told q asks.kind asks.res) asks r
 
 -- ---- before the first turn, and one turn more
 -- a machine before its first turn

@@ -1,20 +1,19 @@
 //! All cores of a plan, and the queues of its global resources.
-ghost use Rattle.std.specs.Prelude.{◌≡◌, ◌<◌, ◌++◌, ◌∷◌};
-ghost use Rattle.msrp_plan.specs.Common.{[], true, ℕ, List, IfOk, IfNone, IfSome, None, Some, length, slice_get, ForSome, IsSomeAnd, most_cores, most_resources, most_rows, log_of, kind_of_call, ahead_of_call, has_shape, IsPlan};
-ghost use Rattle.std.specs.Option.{is_some, option_map};
-ghost use Rattle.msrp_plan.specs.Aheads.{HasReply};
+ghost use Rattle.std.specs.Prelude.{◌≡◌, ◌<◌};
+ghost use Rattle.msrp_plan.specs.Common.{[], ℕ, List, IfOk, IfNone, IfSome, None, Some, length, slice_get, ForSome, most_cores, most_resources, most_rows, log_of, IsPlan};
+ghost use Rattle.std.specs.Option.{option_map};
 ghost use Rattle.msrp_plan.specs.declared.rows.Row.{Row as TraceRow};
 ghost use Rattle.msrp_core.specs.CoreStates.{IsCoreState};
 ghost use Rattle.msrp_core.specs.Machine.{MachineModel};
-ghost use Rattle.msrp_sim.specs.Cores.{AreNew, StandFor, IsDueInRun, IsNextRow, IsSomeTurn, IsAnswered, Leaves, MakesNext, StandOn, known_row};
-ghost use Rattle.msrp_sim.specs.Serving.{AreDrawn, Notes, waiting};
+ghost use Rattle.msrp_sim.specs.Cores.{AreNew, StandFor, IsSomeTurn, Leaves, MakesNext, StandOn, known_row};
+ghost use Rattle.msrp_sim.specs.Serving.{AreDrawn, Notes};
 ghost use Rattle.msrp_sim.specs.TurnPorts.{unless_granted};
 
 use crate::tickets::Queues;
 use crate::turn_port::{repeat_by, turn_by};
-use msrp_core::{CoreState, Machine, PortCall, Reply};
+use msrp_core::{CoreState, Machine, PortCall};
 use msrp_levels::Levels;
-use msrp_plan::{Call, CoreId, Kind, Memory, Plan, ResId, Row};
+use msrp_plan::{CoreId, Memory, Plan, Row};
 use std::alloc::Global;
 use std::marker::Model;
 
@@ -37,34 +36,6 @@ impl<'a> Model for Cores<'a> {
     ghost view = { cores_view };
 
     ghost invariant = { AreCoresView };
-}
-
-// The row of a request of the resource, with the reply that it gets now.
-fn requested(queues: &Queues, row: Row, res: ResId) -> Row
-    requires { has_shape Kind.Take row.job row.res ≡ true }
-    ensures { HasReply (kind_of_call (Call.Ask (waiting queues.now res.0))) (ahead_of_call (Call.Ask (waiting queues.now res.0))) row result }
-{
-    match queues.reply(res) {
-        Reply::Taken => row.with_reply(Kind::Take, None),
-        Reply::Queued(ahead) => row.with_reply(Kind::Queue, Some(ahead)),
-    }
-}
-
-// The row with the answer that the queues give now, where it asks them.
-fn answered(queues: &Queues, row: Row) -> Row
-    ensures { IsAnswered queues.now row result }
-{
-    match (row.kind, row.res) {
-        (Kind::Take | Kind::Queue, Some(res)) => requested(queues, row, res),
-        (Kind::Grant | Kind::Spin, Some(res)) => {
-            if queues.grants(row.core, res) {
-                row.with_reply(Kind::Grant, None)
-            } else {
-                row.with_reply(Kind::Spin, None)
-            }
-        }
-        _ => row,
-    }
 }
 
 // The queues after a turn that made this call, if it made one.
@@ -136,17 +107,6 @@ impl<'a> Cores<'a> {
         ensures { (rows : List TraceRow) → StandFor self.now rows → IsCoreState self.now.plan core.0 (length (log_of core.0 rows)) rows result }
     {
         self.machines[core.0 as usize].state()
-    }
-
-    /// The row that [`Cores::turn`] would make, where the core has a turn left. Whatever rows the cores stand for, it is the next
-    /// one of a core that is due after them.
-    #[inline(always)]
-    pub fn foresee(&self, core: CoreId) -> Option<Row>
-        requires { core.0 < self.now.plan.cores }
-        ensures { (rows : List TraceRow) → StandFor self.now rows → IsDueInRun self.now.plan rows core.0 → IsSomeAnd result (IsNextRow self.now.plan rows core.0) }
-    {
-        let row = self.machines[core.0 as usize].foresee()?;
-        Some(answered(&self.queues, row))
     }
 
     /// The core's next turn, where it is known from its last one: its row is that one in the next tick. That takes no choice,

@@ -6,11 +6,6 @@ use Rattle.std.proofs.lemmas.List.Edits.{take-paste}
 use Rattle.std.specs.Io.KnownBytes.{ReadConsumes}
 use Rattle.std.specs.List.{copy_within}
 use borrow.Rule.Slice.PartMut.{put_mid}
-use Rattle.msrp_text.specs.Ahead.{lines_ahead}
-use Rattle.msrp_text.specs.Records.{ahead_at, bytes_ahead, bytes_at, bytes_left}
-use Rattle.msrp_text.specs.declared.records.RecordReader.{RecordReader}
-use Rattle.msrp_text.specs.declared.records.Way.{Way}
-use Rattle.msrp_text.specs.declared.records.Way.TheVariants as way
 
 pub none-ahead : (known : Option (List ℕ)) → prepend_known [] known ≡ known
 none-ahead None = refl
@@ -154,20 +149,7 @@ kept-known None new bytes h e = absurd (none-some bytes e)
 kept-known (Some xs) None bytes h e = absurd h
 kept-known (Some xs) (Some ys) bytes h e = rw h e
 
-pub keeps-keeps : (a b c : Option (List ℕ)) → Keeps a b → Keeps b c → Keeps a c
-keeps-keeps None b c h k = tt
-keeps-keeps (Some x) None c h k = absurd h
-keeps-keeps (Some x) (Some y) None h k = absurd k
-keeps-keeps (Some x) (Some y) (Some z) h k = k ∙ h
-
 -- the known bytes begin with those that were read ahead
 pub known-ahead : (ahead : List ℕ) (known : Option (List ℕ)) (bytes : List ℕ) → prepend_known ahead known ≡ Some bytes → (more : List ℕ) × (bytes ≡ ahead ++ more)
 known-ahead ahead None bytes e = absurd (none-some bytes e)
 known-ahead ahead (Some more) bytes e = (more, sym (same_Some (ahead ++ more) bytes e))
-
-way-ahead : {R : Type 0} (remaining : R → Option (List ℕ)) (w : Way R) (bytes : List ℕ) → bytes_at remaining w ≡ Some bytes → (more : List ℕ) × (bytes ≡ ahead_at w ++ more)
-way-ahead remaining (way.Lines lines) bytes e = known-ahead (lines_ahead lines) (remaining lines.source) bytes e
-way-ahead remaining (way.Csv records) bytes e = absurd (none-some bytes e)
-
-pub bytes-ahead : {R : Type 0} (remaining : R → Option (List ℕ)) (r : RecordReader R) (bytes : List ℕ) → bytes_left remaining r ≡ Some bytes → (more : List ℕ) × (bytes ≡ bytes_ahead r ++ more)
-bytes-ahead remaining r bytes e = way-ahead remaining r.way bytes e

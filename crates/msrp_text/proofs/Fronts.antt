@@ -1,15 +1,13 @@
 -- The line at the front of a text, as far as it was looked at.
-use Rattle.msrp_plan.proofs.Common.{[], ℕ, List, Bool, true, false, length, slice_index, subst, Option, Some, take, drop, refl, sym, ap, inl, inr, append_assoc, eq-eqb, ne_eqb, length-append, length-drop, arith, get_or-append, get_or-append_seam, nat_tests, not-true, and_parts, or_from, or_parts, list_any-append, list_any, drop-append-le, nil_from_length, take_all, take_at, take_more}
+use Rattle.msrp_plan.proofs.Common.{[], ℕ, List, Bool, true, false, length, slice_index, subst, take, drop, refl, sym, ap, inl, inr, append_assoc, eq-eqb, ne_eqb, length-append, length-drop, arith, get_or-append, get_or-append_seam, nat_tests, and_parts, or_from, or_parts, drop-append-le, take_all, take_at, take_more}
 use Rattle.std.proofs.Common.{◌≡◌, ◌≤◌, ◌<◌, ◌+◌, ◌-◌, ◌==◌, ◌&&◌, ◌||◌, ◌⊎◌, ◌++◌, ◌∷◌, ◌∙◌, take-append-drop, length-take-le}
 use Rattle.std.proofs.Math.Nat.{eq-or-lt_of_le}
 use Rattle.std.proofs.lemmas.Bool.{and_right, eqb-true, or_cases}
-use Rattle.std.proofs.lemmas.List.{append-nil, drop_at}
+use Rattle.std.proofs.lemmas.List.{drop_at}
 use mathlib.Core.Bool.{true≢false}
-use Rattle.msrp_text.specs.Records.{bytes_ahead, bytes_left}
-use Rattle.msrp_text.specs.declared.records.RecordReader.{RecordReader}
 use Rattle.msrp_text.specs.Lines.{is_break}
 use Rattle.msrp_text.specs.Plain.{BeginsWith, EndsLine, IsInLine, NoLine, is_mark, is_plain}
-use Rattle.msrp_text.proofs.AheadBytes.{between-bytes, bytes-ahead, none-left}
+use Rattle.msrp_text.proofs.AheadBytes.{between-bytes, none-left}
 use Rattle.msrp_text.proofs.PlainLines.{IsSplit, plain-byte, plain-first, plain-more, split-joins, split-parts}
 
 -- a byte that ends no plain line, where it isn't the first byte of a byte order mark
@@ -182,22 +180,6 @@ front-behind text front h =
 
 -- ---- a text of which more may come
 -- of two texts that begin the same one, the one begins with the other
-one-begins : (xs ys more after : List ℕ) → xs ++ more ≡ ys ++ after → ((rest : List ℕ) × (xs ≡ ys ++ rest)) ⊎ ((rest : List ℕ) × (ys ≡ xs ++ rest))
-one-begins [] ys more after e = inr (ys, refl)
-one-begins (x ∷ xs) [] more after e = inl (x ∷ xs, refl)
-one-begins (x ∷ xs) (y ∷ ys) more after e =
-    let head : x ≡ y = cc in
-    let tail : xs ++ more ≡ ys ++ after = cc in
-    elim (one-begins xs ys more after tail) [
-      | inl h ↦ let rest : xs ≡ ys ++ h.0 = h.1 in inl (h.0, cc)
-      | inr h ↦ let rest : ys ≡ xs ++ h.0 = h.1 in inr (h.0, cc)
-    ]
-
--- a line and its end
-ended-size : (line ended : List ℕ) → EndsLine line ended → length ended ≤ length line + 2
-ended-size line ended (inl e) = omega (arith, ap length e ∙ length-append line (10 ∷ []))
-ended-size line ended (inr (inl e)) = omega (arith, ap length e ∙ length-append line (13 ∷ []))
-ended-size line ended (inr (inr e)) = omega (arith, ap length e ∙ length-append line (13 ∷ 10 ∷ []))
 
 -- what begins with a line and its end does so whatever comes after it
 pub begins-on : (line text more : List ℕ) → BeginsWith line text → BeginsWith line (text ++ more)
@@ -205,83 +187,3 @@ begins-on line text more begins = (begins.0, begins.1 ++ more, begins.2, ap (λ 
 
 pub no-line-on : (text more all : List ℕ) (most : ℕ) → all ≡ text ++ more → NoLine most all → NoLine most text
 no-line-on text more all most e none = λ line begins. none line (subst (λ (t : List ℕ). BeginsWith line t) (sym e) (begins-on line text more begins))
-
--- where the bytes that were read ahead do, all that are left do
-pub begins-known : {R : Type 0} (remaining : R → Option (List ℕ)) (r : RecordReader R) (bytes line : List ℕ) → bytes_left remaining r ≡ Some bytes → BeginsWith line (bytes_ahead r) → BeginsWith line bytes
-begins-known remaining r bytes line known begins =
-    let rest = bytes-ahead remaining r bytes known in
-    subst (λ (t : List ℕ). BeginsWith line t) (sym rest.1) (begins-on line (bytes_ahead r) rest.0 begins)
-
--- a text that is as long as the line and its end needs no more
-pub begins-first : (line text more : List ℕ) → length line + 2 ≤ length text → BeginsWith line (text ++ more) → BeginsWith line text
-begins-first line text more room begins = elim (one-begins text begins.0 more begins.1 begins.3) [
-  | inl h ↦ (begins.0, h.0, begins.2, h.1)
-  | inr h ↦
-      let size : length begins.0 ≡ length text + length h.0 = ap length h.1 ∙ length-append text h.0 in
-      let none : h.0 ≡ [] = nil_from_length h.0 (omega (arith, room, size, ended-size line begins.0 begins.2)) in
-      let same : begins.0 ≡ text = h.1 ∙ ap (λ (t : List ℕ). text ++ t) none ∙ append-nil text in
-      (begins.0, [], begins.2, sym same ∙ sym (append-nil begins.0))
-]
-
--- a text with a line feed in it that more bytes make begin with a line and its end does so already, where the line has none
-fed-first : (line xs more after : List ℕ) → list_any (λ b. b == 10) line ≡ false → list_any (λ b. b == 10) xs ≡ true → xs ++ more ≡ (line ++ (10 ∷ [])) ++ after → (rest : List ℕ) × (xs ≡ (line ++ (10 ∷ [])) ++ rest)
-fed-first [] [] more after none some e = absurd (true≢false (sym some))
-fed-first [] (x ∷ xs) more after none some e = let here : x ≡ 10 = cc in (xs, ap (λ n. n ∷ xs) here)
-fed-first (b ∷ line) [] more after none some e = absurd (true≢false (sym some))
-fed-first (b ∷ line) (x ∷ xs) more after none some e =
-    let here : x ≡ b = cc in
-    let tail : xs ++ more ≡ (line ++ (10 ∷ [])) ++ after = cc in
-    let parts = or_parts (b == 10) (list_any (λ n. n == 10) line) none in
-    let other : list_any (λ n. n == 10) xs ≡ true = sym (ap (λ t. t || list_any (λ n. n == 10) xs) (ap (λ n. n == 10) here ∙ parts.0)) ∙ some in
-    let rest = fed-first line xs more after parts.1 other tail in
-    (rest.0, ap (λ n. n ∷ xs) here ∙ ap (λ (t : List ℕ). b ∷ t) rest.1)
-
--- a text with a line feed in it that begins as one without any does begins with all of that
-fed-past : (line xs more after : List ℕ) → list_any (λ b. b == 10) line ≡ false → list_any (λ b. b == 10) xs ≡ true → xs ++ more ≡ line ++ after → (rest : List ℕ) × (xs ≡ line ++ rest)
-fed-past line xs more after none some e = elim (one-begins xs line more after e) [
-  | inl h ↦ h
-  | inr h ↦
-      let both : list_any (λ b. b == 10) line ≡ true = ap (list_any (λ b. b == 10)) h.1 ∙ list_any-append (λ b. b == 10) xs h.0 ∙ rw some refl in
-      absurd (true≢false (sym both ∙ none))
-]
-
--- no byte of a plain line is a line feed
-no-feed : (line : List ℕ) → list_any is_mark line ≡ false → list_any (λ b. b == 10) line ≡ false
-no-feed [] e = refl
-no-feed (b ∷ line) e =
-    let parts = or_parts (is_mark b) (list_any is_mark line) e in
-    or_from (b == 10) (list_any (λ n. n == 10) line) (or_parts _ _ (or_parts _ _ parts.0).1).1 (no-feed line parts.1)
-
-plain-feed : (line : List ℕ) → is_plain line ≡ true → list_any (λ b. b == 10) line ≡ false
-plain-feed [] e = refl
-plain-feed (b ∷ line) e = no-feed (b ∷ line) (not-true _ (and_parts _ _ e).1)
-
-pub begins-fed : (line xs more : List ℕ) → is_plain line ≡ true → list_any (λ b. b == 10) xs ≡ true → BeginsWith line (xs ++ more) → BeginsWith line xs
-begins-fed line xs more plain fed begins = by begins.2
-  where
-    by : EndsLine line begins.0 → BeginsWith line xs
-    by (inl e) =
-        let first = fed-first line xs more begins.1 (plain-feed line plain) fed (begins.3 ∙ ap (λ (t : List ℕ). t ++ begins.1) e) in
-        (line ++ (10 ∷ []), first.0, inl refl, first.1)
-    by (inr (inl e)) =
-        let none : list_any (λ b. b == 10) (line ++ (13 ∷ [])) ≡ false = list_any-append (λ b. b == 10) line (13 ∷ []) ∙ rw (plain-feed line plain) refl in
-        let first = fed-past (line ++ (13 ∷ [])) xs more begins.1 none fed (begins.3 ∙ ap (λ (t : List ℕ). t ++ begins.1) e) in
-        (line ++ (13 ∷ []), first.0, inr (inl refl), first.1)
-    by (inr (inr e)) =
-        let same : (line ++ (13 ∷ [])) ++ (10 ∷ []) ≡ line ++ (13 ∷ 10 ∷ []) = append_assoc line (13 ∷ []) (10 ∷ []) in
-        let none : list_any (λ b. b == 10) (line ++ (13 ∷ [])) ≡ false = list_any-append (λ b. b == 10) line (13 ∷ []) ∙ rw (plain-feed line plain) refl in
-        let first = fed-first (line ++ (13 ∷ [])) xs more begins.1 none fed (begins.3 ∙ ap (λ (t : List ℕ). t ++ begins.1) (e ∙ sym same)) in
-        (line ++ (13 ∷ 10 ∷ []), first.0, inr (inr refl), first.1 ∙ ap (λ (t : List ℕ). t ++ first.0) same)
-
--- where a whole line is ahead, or as many bytes as the longest has, or all that comes, a line that comes is ahead
-pub comes-ahead : {R : Type 0} (remaining : R → Option (List ℕ)) (r : RecordReader R) (bytes line : List ℕ) (failed : Bool) → bytes_left remaining r ≡ Some bytes → length line < 256 → is_plain line ≡ true → BeginsWith line bytes
-    → (list_any (λ byte. byte == 10) (bytes_ahead r) ≡ true) ⊎ (256 < length (bytes_ahead r)) ⊎ (failed ≡ true) ⊎ (bytes ≡ bytes_ahead r) → BeginsWith line (bytes_ahead r) ⊎ (failed ≡ true)
-comes-ahead remaining r bytes line failed known few plain begins enough =
-    let rest = bytes-ahead remaining r bytes known in
-    let all = subst (λ (t : List ℕ). BeginsWith line t) rest.1 begins in
-    elim enough [
-      | inl fed ↦ inl (begins-fed line (bytes_ahead r) rest.0 plain fed all)
-      | inr (inl long) ↦ inl (begins-first line (bytes_ahead r) rest.0 (omega (arith, few, long)) all)
-      | inr (inr (inl failed)) ↦ inr failed
-      | inr (inr (inr whole)) ↦ inl (subst (λ (t : List ℕ). BeginsWith line t) whole begins)
-    ]

@@ -3,7 +3,7 @@ use Rattle.std.specs.Prelude.{◌≡◌, ◌+◌, ◌++◌, ◌∷◌, if◌then
 use Rattle.msrp_plan.specs.Common.{ℕ, Bool, true, false, List, [], length, Option, Some, None, option_map}
 use Rattle.csv.specs.Reading.{default_config, records, reader_source, records_from, source_of, strip_bom, reader_state}
 use Rattle.csv.specs.declared.parser.State.{State}
-use Rattle.msrp_text.specs.Ahead.{has_failed, lines_ahead, unread}
+use Rattle.msrp_text.specs.Ahead.{lines_ahead, unread}
 use Rattle.msrp_text.specs.declared.csv_records.CsvRecords.{CsvRecords}
 use Rattle.msrp_text.specs.declared.lines.Lines.{Lines}
 use Rattle.msrp_text.specs.declared.records.RecordReader.{RecordReader}
@@ -52,14 +52,6 @@ abbrev pub ahead_at : {R : Type 0} → Way R → List ℕ
 ahead_at (way.Lines lines) = lines_ahead lines
 ahead_at (way.Csv records) = []
 
-abbrev pub bytes_at : {R : Type 0} → (R → Option (List ℕ)) → Way R → Option (List ℕ)
-bytes_at remaining (way.Lines lines) = unread remaining lines
-bytes_at remaining (way.Csv records) = None
-
-abbrev pub has_failed_at : {R : Type 0} → Way R → Bool
-has_failed_at (way.Lines lines) = has_failed lines
-has_failed_at (way.Csv records) = false
-
 abbrev pub left_at : {R : Type 0} → (R → Option (List ℕ)) → Way R → Option (List (List (List ℕ)))
 left_at remaining (way.Lines lines) = records_ahead remaining lines
 left_at remaining (way.Csv records) = csv_left (unread remaining) records
@@ -79,14 +71,6 @@ reads_csv r = is_csv r.way
 -- the bytes that were read ahead, from the next record on
 abbrev pub bytes_ahead : {R : Type 0} → RecordReader R → List ℕ
 bytes_ahead r = ahead_at r.way
-
--- the bytes that are left, from the next record on, where the reader underneath tells them; not told once `csv` reads
-abbrev pub bytes_left : {R : Type 0} → (R → Option (List ℕ)) → RecordReader R → Option (List ℕ)
-bytes_left remaining r = bytes_at remaining r.way
-
--- a read ahead has failed
-abbrev pub read_failed : {R : Type 0} → RecordReader R → Bool
-read_failed r = has_failed_at r.way
 
 -- the records that are left, where the reader underneath tells its bytes
 abbrev pub records_left : {R : Type 0} → (R → Option (List ℕ)) → RecordReader R → Option (List (List (List ℕ)))

@@ -4,7 +4,7 @@ ghost use Rattle.std.specs.Prelude.{◌≡◌, ◌==◌, ◌&&◌, ◌||◌, ◌
 ghost use Rattle.msrp_plan.specs.Common.{codes, ℕ, List, [], Some, IfOk, IsSome, true, false, slice_index, length, take, drop};
 ghost use Rattle.std.specs.Option.{IfSome};
 ghost use Rattle.csv.specs.Records.{fields_of, partial_of};
-ghost use Rattle.msrp_text.specs.Plain.{BeginsWith, BeginsWithDigit, EndsLine, Stands, is_plain, split_commas, split_from};
+ghost use Rattle.msrp_text.specs.Plain.{BeginsWith, BeginsWithDigit, EndsLine, Stands, is_plain, split_commas};
 
 use csv::ByteRecord;
 use std::alloc::AllocError;
@@ -248,15 +248,6 @@ pub(crate) fn ends_line(text: &[u8]) -> bool
     ensures finds { (rest : List ℕ) → text.now ≡ rest ++ codes "\n" → result ≡ true }
 {
     text.ends_with(b"\n")
-}
-
-/// Whether a text begins with two others, of which the second ends with a line feed.
-#[inline(always)]
-pub(crate) fn goes_on(text: &[u8], front: &[u8], line: &[u8]) -> bool
-    ensures ended { result ≡ true → (rest : List ℕ) × (line.now ≡ rest ++ codes "\n") }
-    ensures begins { result ≡ true → (after : List ℕ) × (text.now ≡ front.now ++ (line.now ++ after)) }
-{
-    begins_with(text, front) && begins_with_long(&text[front.len()..], line) && ends_line(line)
 }
 
 /// How many bytes a line takes with its end, where a text that begins with the first part of it begins with the whole line.

@@ -1,18 +1,16 @@
 //! The records of a text, read in turn.
-ghost use Rattle.std.specs.Prelude.{◌≡◌, ◌==◌, ◌⊎◌, ◌≤◌, ◌<◌, ◌+◌, ◌++◌, ◌∷◌, ◌^◌};
-ghost use Rattle.msrp_plan.specs.Common.{[], codes, ℕ, List, Some, None, Err, IfOk, IfErr, OnOk, OnErr, Ok, IsSome, option_map, length, map, take, true, false, list_all, list_any};
+ghost use Rattle.std.specs.Prelude.{◌≡◌, ◌≤◌, ◌<◌, ◌+◌, ◌++◌, ◌∷◌, ◌^◌};
+ghost use Rattle.msrp_plan.specs.Common.{[], codes, ℕ, List, Some, None, Err, IfOk, IfErr, OnOk, OnErr, Ok, IsSome, option_map, length, take, true, false};
 ghost use Rattle.std.specs.Option.{IfSome};
 ghost use Rattle.csv.specs.Records.{fields_of};
 ghost use Rattle.msrp_text.specs.declared.front.TheConstants.{LONGEST};
-ghost use Rattle.msrp_text.specs.declared.lines.TheConstants.{ROOM};
-ghost use Rattle.std.specs.Io.KnownBytes.{Keeps};
-ghost use Rattle.msrp_text.specs.Lines.{BeginsIn, HasRead, HasTakenBy, empty_at, empty_before};
+ghost use Rattle.msrp_text.specs.Lines.{BeginsIn, HasRead, HasTakenBy, empty_before};
 ghost use Rattle.msrp_text.specs.Plain.{BeginsWith, BeginsWithDigit, EndsLine, IsPeeked, NoLine, is_plain, is_plain_field, split_commas};
-ghost use Rattle.msrp_text.specs.Records.{FirstBegins, GivesLine, GivesNext, HasNone, KeepsRecords, bytes_ahead, bytes_left, csv_records, is_csv, left_at, read_failed, reader_under, reads_csv, records_left, stop_at, stop_of};
+ghost use Rattle.msrp_text.specs.Records.{FirstBegins, GivesLine, GivesNext, HasNone, KeepsRecords, bytes_ahead, csv_records, is_csv, left_at, reader_under, reads_csv, records_left, stop_at, stop_of};
 
 use crate::csv_records::CsvRecords;
 use crate::front::{
-    LONGEST, PlainLine, begins_with, begins_with_long, digit_after, ends_line, goes_on, line_behind,
+    LONGEST, PlainLine, begins_with, begins_with_long, digit_after, ends_line, line_behind,
 };
 use crate::lines::Lines;
 use core::mem;
@@ -111,36 +109,10 @@ impl<R: Read> RecordReader<R> {
         }
     }
 
-    /// Whether the text goes on with these two texts, of which the second has a line feed behind it, or another end of a line (CR, CRLF) in that place.
-    /// Where it does, that line is taken; else nothing is. Where no whole line was read ahead, more is read; a line of [`LONGEST`] bytes or more
-    /// may not be met there.
-    #[inline(always)]
-    pub fn meets(&mut self, front: &[u8], line: &[u8]) -> bool
-        ensures taken { result ≡ true → (rest : List ℕ) → line.now ≡ rest ++ codes "\n" → is_plain (front.now ++ rest) ≡ true → GivesLine (records_left R.remaining self.old) (split_commas (front.now ++ rest)) (records_left R.remaining self.new) }
-        ensures kept { result ≡ false → KeepsRecords (records_left R.remaining self.old) (records_left R.remaining self.new) }
-        ensures stop { stop_of self.new ≡ stop_of self.old }
-        ensures ahead { (rest : List ℕ) → line.now ≡ rest ++ codes "\n" → BeginsWith (front.now ++ rest) (bytes_ahead self.old) → result ≡ true }
-        ensures begins { result ≡ true → (rest : List ℕ) → line.now ≡ rest ++ codes "\n" → (bytes : List ℕ) → bytes_left R.remaining self.old ≡ Some bytes → BeginsWith (front.now ++ rest) bytes }
-        ensures finds { (rest : List ℕ) → line.now ≡ rest ++ codes "\n" → (bytes : List ℕ) → bytes_left R.remaining self.old ≡ Some bytes → length (front.now ++ rest) < LONGEST → is_plain (front.now ++ rest) ≡ true → BeginsWith (front.now ++ rest) bytes → (result ≡ true) ⊎ (read_failed self.new ≡ true) }
-        ensures line { result ≡ true → (rest : List ℕ) → line.now ≡ rest ++ codes "\n" → is_plain (front.now ++ rest) ≡ true → (bytes : List ℕ) (number : ℕ) → HasRead R.remaining bytes number self.old → HasRead R.remaining bytes (number + 1) self.new }
-        ensures still { result ≡ false → (bytes : List ℕ) (number : ℕ) → HasRead R.remaining bytes number self.old → HasRead R.remaining bytes number self.new }
-        ensures ended { result ≡ true → (rest : List ℕ) × (line.now ≡ rest ++ codes "\n") }
-        ensures grows { result ≡ false → (more : List ℕ) × (bytes_ahead self.new ≡ bytes_ahead self.old ++ more) }
-    {
-        // Where enough is ahead nothing is read, and no length is looked at again.
-        if self.ahead().len() <= LONGEST {
-            self.read_line_ahead();
-            return self.meets_apart(front, line);
-        }
-        if goes_on(self.ahead(), front, line) {
-            self.take_line(front.len() + line.len());
-            return true;
-        }
-        self.meets_apart(front, line)
-    }
-
-    /// The same, where the first text is known to come next, as from [`RecordReader::digit_after`], and the second has a line feed behind it: the first
-    /// isn't compared again, and no more is read.
+    /// Whether the text goes on with these two texts, of which the first is known to come next, as
+    /// from [`RecordReader::digit_after`]. The second ends with a line feed, which another end of a
+    /// line (CR, CRLF) may stand for. Where it does, that line is taken; else nothing is. No more is
+    /// read.
     #[inline(always)]
     pub fn meets_behind(&mut self, front: &[u8], line: &[u8]) -> bool
         requires { (after : List ℕ) × (bytes_ahead self.old ≡ front.now ++ after) }
@@ -187,7 +159,7 @@ impl<R: Read> RecordReader<R> {
     }
 
     /// The second field of the next record, where it is one digit, the first field is that text, and both stand as they are at the front
-    /// of what was read ahead; else none, and nothing is known. More is read first, as in [`RecordReader::meets`].
+    /// of what was read ahead; else none, and nothing is known. Where no whole line was read ahead, more is read first.
     #[inline(always)]
     pub fn digit_after(&mut self, first: &[u8]) -> Option<u8>
         ensures next { IfSome result (λ digit. is_plain_field first.now ≡ true → (left : List (List (List ℕ))) → records_left R.remaining self.new ≡ Some left → FirstBegins (first.now ∷ (digit ∷ []) ∷ []) left) }
@@ -205,11 +177,8 @@ impl<R: Read> RecordReader<R> {
     #[inline(always)]
     fn look_ahead(&mut self)
         ensures same { KeepsRecords (records_left R.remaining self.old) (records_left R.remaining self.new) }
-        ensures bytes { Keeps (bytes_left R.remaining self.old) (bytes_left R.remaining self.new) }
         ensures stop { stop_of self.new ≡ stop_of self.old }
         ensures still { (bytes : List ℕ) (number : ℕ) → HasRead R.remaining bytes number self.old → HasRead R.remaining bytes number self.new }
-        ensures grows { (more : List ℕ) × (bytes_ahead self.new ≡ bytes_ahead self.old ++ more) }
-        ensures line { (bytes : List ℕ) → bytes_left R.remaining self.new ≡ Some bytes → (list_any (λ byte. byte == 10) (bytes_ahead self.new) ≡ true) ⊎ (LONGEST < length (bytes_ahead self.new)) ⊎ (read_failed self.new ≡ true) ⊎ (bytes ≡ bytes_ahead self.new) }
     {
         if self.ahead().len() <= LONGEST {
             self.read_line_ahead();
@@ -220,11 +189,8 @@ impl<R: Read> RecordReader<R> {
     #[inline(never)]
     fn read_line_ahead(&mut self)
         ensures same { KeepsRecords (records_left R.remaining self.old) (records_left R.remaining self.new) }
-        ensures bytes { Keeps (bytes_left R.remaining self.old) (bytes_left R.remaining self.new) }
         ensures stop { stop_of self.new ≡ stop_of self.old }
         ensures still { (bytes : List ℕ) (number : ℕ) → HasRead R.remaining bytes number self.old → HasRead R.remaining bytes number self.new }
-        ensures grows { (more : List ℕ) × (bytes_ahead self.new ≡ bytes_ahead self.old ++ more) }
-        ensures line { (bytes : List ℕ) → bytes_left R.remaining self.new ≡ Some bytes → (list_any (λ byte. byte == 10) (bytes_ahead self.new) ≡ true) ⊎ (LONGEST < length (bytes_ahead self.new)) ⊎ (read_failed self.new ≡ true) ⊎ (bytes ≡ bytes_ahead self.new) }
     {
         while self.ahead().len() <= LONGEST
             && !self.ahead().contains(&b'\n')
@@ -235,12 +201,9 @@ impl<R: Read> RecordReader<R> {
     // Reads more of the text ahead, and whether that gave a byte. Once `csv` reads it gives none.
     fn read_ahead(&mut self) -> bool
         ensures same { KeepsRecords (records_left R.remaining self.old) (records_left R.remaining self.new) }
-        ensures bytes { Keeps (bytes_left R.remaining self.old) (bytes_left R.remaining self.new) }
         ensures stop { stop_of self.new ≡ stop_of self.old }
         ensures still { (bytes : List ℕ) (number : ℕ) → HasRead R.remaining bytes number self.old → HasRead R.remaining bytes number self.new }
-        ensures grows { (more : List ℕ) × (bytes_ahead self.new ≡ bytes_ahead self.old ++ more) × (result ≡ false → more ≡ []) }
         ensures more { result ≡ true → length (bytes_ahead self.old) < length (bytes_ahead self.new) }
-        ensures end { result ≡ false → (bytes : List ℕ) → bytes_left R.remaining self.new ≡ Some bytes → length (bytes_ahead self.new) + 1 < ROOM → (read_failed self.new ≡ true) ⊎ (bytes ≡ bytes_ahead self.new) }
     {
         match &mut self.way {
             Way::Lines(lines) => lines.fetch(),

@@ -1,6 +1,6 @@
 -- Numbers as texts: the next one.
 use Rattle.std.proofs.Common.{◌≡◌, ◌∷◌, ◌++◌, ◌+◌, ◌-◌, ◌/◌, ◌%◌, ◌<◌, ◌^◌, ◌∙◌}
-use Rattle.msrp_plan.proofs.Common.{ℕ, List, [], slice_index, length, take, ap, sym, arith, inl, inr, decimal, cases_lt, get_or-append, get_or-append_seam, length-take-le, take-append-le, take_all, decimal_digit, decimal_nonempty}
+use Rattle.msrp_plan.proofs.Common.{ℕ, List, [], slice_index, length, take, ap, sym, arith, inl, inr, decimal, cases_lt, get_or-append_seam, take-append-le, take_all, decimal_digit}
 use Rattle.std.proofs.lemmas.List.{length-append}
 use Rattle.std.proofs.lemmas.Fmt.{decimal_step}
 
@@ -42,31 +42,3 @@ counted_up text n m digit fits here low next small =
     let more : digit + 1 ≡ 48 + m % 10 = omega (arith, last, low, next) in
     let some : 0 < m % 10 = omega (arith, last, low, next) in
     ap (λ t. take (length t - 1) t ++ (digit + 1) ∷ []) fits ∙ (ap (λ d. take (length (decimal n) - 1) (decimal n) ++ d ∷ []) more ∙ next_decimal n m next some small)
-
--- a number that doesn't end in 0 is as long as the one before, and has another last digit
-next_size : (n : ℕ) → 0 < (n + 1) % 10 → n + 1 < 2 ^ 32 → length (decimal (n + 1)) ≡ length (decimal n)
-next_size n some small =
-    let all = ap length (next_decimal n (n + 1) (omega arith) some (omega (arith, small))) in
-    let most = decimal_nonempty n (omega (arith, small)) in
-    let size = length-append (take (length (decimal n) - 1) (decimal n)) ((48 + (n + 1) % 10) ∷ []) in
-    let front = length-take-le (length (decimal n) - 1) (decimal n) (omega arith) in
-    omega (arith, all, most, size, front)
-
-pub next_within : (n : ℕ) (text rest : List ℕ) → text ≡ decimal (n + 1) ++ rest → 0 < (n + 1) % 10 → n + 1 < 2 ^ 32 → (length (decimal n) - 1 < length text) × (length (decimal n) - 1 < length (decimal n))
-next_within n text rest e some small =
-    let size = next_size n some small in
-    let most = decimal_nonempty n (omega (arith, small)) in
-    let all = ap length e ∙ length-append (decimal (n + 1)) rest in
-    (omega (arith, size, most, all), omega (arith, most))
-
-pub next_differs : (n : ℕ) (text rest : List ℕ) → text ≡ decimal (n + 1) ++ rest → 0 < (n + 1) % 10 → n + 1 < 2 ^ 32
-    → slice_index text (length (decimal n) - 1) ≡ slice_index (decimal n) (length (decimal n) - 1) → ⊥
-next_differs n text rest e some small same =
-    let size = next_size n some small in
-    let most = decimal_nonempty n (omega (arith, small)) in
-    let here = last_digit n (omega (arith, small)) in
-    let next = last_digit (n + 1) (omega (arith, small)) in
-    let there : slice_index text (length (decimal n) - 1) ≡ 48 + (n + 1) % 10 =
-    ap (λ (t : List ℕ). slice_index t (length (decimal n) - 1)) e ∙ get_or-append (decimal (n + 1)) rest 0 (length (decimal n) - 1) (omega (arith, size, most)) ∙ ap (λ k. slice_index (decimal (n + 1)) (k - 1)) (sym size) ∙ next in
-    let both : 48 + (n + 1) % 10 ≡ 48 + n % 10 = sym there ∙ same ∙ here in
-    omega (arith, both)

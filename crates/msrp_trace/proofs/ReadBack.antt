@@ -1,6 +1,6 @@
 -- What is written of rows reads back as those rows.
-use Rattle.std.proofs.Common.{◌≡◌, ◌+◌, ◌*◌, ◌<◌, ◌≤◌, ◌==◌, ◌&&◌, ◌||◌, ◌∷◌, ◌++◌, ◌∙◌}
-use Rattle.msrp_plan.proofs.Common.{ℕ, not, true, false, cond, List, [], map, length, decimal, Option, Some, None, is_none, is_some, option_map, unwrap_or, refl, ap, sym, subst, arith, nat_lt, nat_le, slice_index_or, AllByRecursion, flat_map, list_all, is_ascii_lowercase, bytes_eq, and_parts, and_from, false_from_ne_true, nat_tests, get_or-map, length-map, slice_get-get_or, carries_ahead, carries_its_ahead, is_name, is_name_byte, PlanModel, TaskModel, no_task, task_at, task_of, has_shape, is_queue, may_carry, IsRunStart, IsPlan}
+use Rattle.std.proofs.Common.{◌≡◌, ◌+◌, ◌<◌, ◌==◌, ◌&&◌, ◌||◌, ◌∷◌, ◌++◌, ◌∙◌}
+use Rattle.msrp_plan.proofs.Common.{ℕ, not, true, false, cond, List, [], map, length, decimal, Option, Some, None, is_none, is_some, option_map, unwrap_or, refl, ap, sym, subst, arith, nat_lt, slice_index_or, AllByRecursion, flat_map, list_all, bytes_eq, and_parts, and_from, false_from_ne_true, nat_tests, get_or-map, length-map, slice_get-get_or, carries_ahead, carries_its_ahead, is_name, PlanModel, TaskModel, no_task, task_at, task_of, has_shape, is_queue, may_carry, IsRunStart, IsPlan}
 use Rattle.msrp_plan.specs.declared.ids.JobId.{JobId}
 use Rattle.msrp_plan.specs.declared.ids.ResId.{ResId}
 use Rattle.msrp_plan.specs.declared.rows.Kind.{Kind}
@@ -9,8 +9,6 @@ use Rattle.msrp_plan.specs.declared.rows.Row.{Row}
 use Rattle.msrp_plan.specs.declared.rows.TextVersion.{TextVersion}
 use Rattle.msrp_plan.specs.declared.rows.TextVersion.TheVariants.{V1, V2}
 use mathlib.Core.Bool.{true≢false}
-use Rattle.std.proofs.lemmas.Fmt.{length-decimal-le}
-use Rattle.std.proofs.lemmas.List.{length-append}
 use Rattle.csv.specs.Reading.{strip_bom}
 use Rattle.csv.specs.Records.{field_at}
 use Rattle.csv.specs.declared.parser.State.TheVariants as st
@@ -18,7 +16,7 @@ use Rattle.msrp_plan.specs.Aheads.{without_ahead}
 use Rattle.msrp_plan.specs.Words.{kind_text}
 use Rattle.msrp_text.specs.Fields.{number_at, number_of}
 use Rattle.msrp_text.specs.Plain.{is_plain, split_commas}
-use Rattle.msrp_text.specs.PlanText.{next_fields, records_text, version_text}
+use Rattle.msrp_text.specs.PlanText.{records_text, version_text}
 use Rattle.msrp_text.specs.Records.{csv_records, records_at}
 use Rattle.msrp_text.proofs.MetLines.{met-line}
 use Rattle.msrp_text.proofs.Numerals.{number_again, plain_decimal}
@@ -381,54 +379,6 @@ whole_line version plan r line ok h e =
     by V2 told e = told
 
 -- ---- how long a row's text is
-few_dash : length dash ≤ 16
-unfolding dash
-few_dash = omega arith
-
-few_kind : (k : Kind) → length (kind_text k) ≤ 16
-unfolding kind_text
-few_kind Idle = omega arith
-few_kind Run = omega arith
-few_kind Lock = omega arith
-few_kind Unlock = omega arith
-few_kind Take = omega arith
-few_kind Queue = omega arith
-few_kind Spin = omega arith
-few_kind Grant = omega arith
-few_kind Release = omega arith
-
-few_digits : (n : ℕ) → is_short n ≡ true → length (decimal n) ≤ 16
-few_digits n h = let low : n < 1000000000 = grind (arith, nat_tests, h) in omega (arith, length-decimal-le 9 n (omega arith) (omega (arith, low)) (omega (arith, low)))
-
-few_bytes : (name : List ℕ) → is_name name ≡ true → length name ≤ 16
-few_bytes [] h = omega arith
-few_bytes (b ∷ bs) h =
-    let parts = and_parts (is_ascii_lowercase b) (nat_le (length bs) 15 && list_all is_name_byte bs) h in
-    let size = (and_parts (nat_le (length bs) 15) (list_all is_name_byte bs) parts.1).0 in
-    grind (arith, nat_tests, size)
-
--- fields that follow others, each after a comma
-few_next : (fields : List (List ℕ)) → AllByRecursion (λ field. length field ≤ 16) fields → length (next_fields fields) ≤ 17 * length fields + 1
-few_next [] all = omega arith
-few_next (field ∷ fields) all =
-    let size : length (field ++ next_fields fields) ≡ length field + length (next_fields fields) = length-append field (next_fields fields) in
-    omega (arith, all.0, few_next fields all.1, size)
-
-few_ahead : (version : TextVersion) (ahead : Option ℕ) → length (ahead_fields version ahead) ≤ 1
-few_ahead V1 ahead = omega arith
-few_ahead V2 None = omega arith
-few_ahead V2 (Some n) = omega arith
-
-pub short_line : (version : TextVersion) (plan : PlanModel) (r : Row) (line : List ℕ) → IsPlan plan → is_told_whole version plan r ≡ true → line ++ (10 ∷ []) ≡ row_text version plan r → length line < 256
-short_line version plan r line ok h e =
-    let parts = and_parts (is_named plan r) (has_short_numbers r && has_told_ahead version r) h in
-    let more = and_parts (has_short_numbers r) (has_told_ahead version r) parts.1 in
-    let each = each_field (λ field. length field ≤ 16) few_dash few_kind few_digits few_bytes version plan r ok parts.0 more.0 in
-    let rest : List (List ℕ) = decimal r.core.0 ∷ kind_text r.kind ∷ task_text plan r.job ∷ job_text r.job ∷ res_text plan r.res ∷ ahead_fields version r.ahead in
-    let size : length (decimal r.tick ++ next_fields rest) ≡ length (decimal r.tick) + length (next_fields rest) = length-append (decimal r.tick) (next_fields rest) in
-    let whole : length line + 1 ≡ length (decimal r.tick ++ next_fields rest) = sym (length-append line (10 ∷ [])) ∙ ap length e in
-    let count : length rest ≤ 6 = omega (arith, few_ahead version r.ahead) in
-    omega (arith, each.0, few_next rest each.1, size, whole, count)
 
 -- ---- the first record of a text
 plain_head : (version : TextVersion) (plan : PlanModel) → IsPlan plan → IsPlainRecord (head_fields version plan)

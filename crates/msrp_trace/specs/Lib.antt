@@ -8,5 +8,5 @@ pub mod RowParts
 pub mod Reading
 pub mod Laws
 pub mod Readers
-pub mod Foreseen
+pub mod Guesses
 pub mod Texts

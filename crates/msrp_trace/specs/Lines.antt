@@ -1,6 +1,6 @@
 -- The record that a core had last, but for its tick.
 use Rattle.std.specs.Prelude.{◌≡◌, ◌≤◌, ◌++◌, ◌&&◌, ◌==◌}
-use Rattle.msrp_plan.specs.Common.{length, ℕ, List, Option, Some, Bool, true, is_none, All, same_res, PlanModel, same_choice}
+use Rattle.msrp_plan.specs.Common.{length, ℕ, List, Option, Some, Bool, is_none, All, same_res, PlanModel, same_choice}
 use Rattle.msrp_plan.specs.declared.rows.Row.{Row}
 use Rattle.msrp_plan.specs.declared.rows.TextVersion.{TextVersion}
 use Rattle.msrp_plan.specs.declared.ids.JobId.{JobId}
@@ -8,7 +8,6 @@ use Rattle.std.specs.Option.{IfSome}
 use Rattle.msrp_trace.specs.Gathering.{after_tick, next_field}
 use Rattle.msrp_trace.specs.TraceText.{job_text, res_text, task_text}
 use Rattle.msrp_trace.specs.declared.job.JobText.{JobText}
-use Rattle.msrp_trace.specs.Laws.{is_told_whole}
 use Rattle.msrp_trace.specs.declared.line.CoreText.{CoreText}
 use Rattle.msrp_trace.specs.declared.line.RowLine.{RowLine}
 use Rattle.msrp_trace.specs.declared.res.ResText.{ResText}
@@ -42,7 +41,3 @@ pub record IsCoreText (plan : PlanModel) (kept : CoreText) : Type 0 where
 pub record IsLine (version : TextVersion) (plan : PlanModel) (kept : RowLine) : Type 0 where
   pub fits : IfSome kept.row (λ r. kept.text.line ≡ after_tick version plan r)
   pub text : IsCoreText plan kept.text
-
--- the row is read as it was written
-pub record IsWhole (version : TextVersion) (plan : PlanModel) (kept : RowLine) : Type 0 where
-  pub whole : IfSome kept.row (λ r. is_told_whole version plan r ≡ true)

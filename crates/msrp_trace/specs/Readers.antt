@@ -9,7 +9,7 @@ use Rattle.csv.specs.Records.{fields_of}
 use Rattle.msrp_text.specs.Lines.{HasRead}
 use Rattle.msrp_text.specs.Plain.{BeginsWith}
 use Rattle.msrp_text.specs.Reading.{record_at}
-use Rattle.msrp_text.specs.Records.{bytes_ahead, bytes_left, read_failed, reader_under, records_left}
+use Rattle.msrp_text.specs.Records.{bytes_ahead, reader_under, records_left}
 use Rattle.msrp_trace.specs.Gathering.{after_tick}
 use Rattle.msrp_trace.specs.Laws.{is_told_whole}
 use Rattle.msrp_trace.specs.Reading.{Told, rows_of, told_after, version_of}
@@ -54,17 +54,9 @@ pub record IsLineOf {R : Type 0} (t : TraceReader R) (r : Row) (line : List ℕ)
 abbrev pub CanMeet : {R : Type 0} → TraceReader R → Row → Type 0
 CanMeet t r = (line : List ℕ) × IsLineOf t r line × BeginsWith line (bytes_ahead t.records)
 
--- its text comes next: the bytes that are left begin with it, where the reader underneath tells them
-abbrev pub ComesNext : {R : Type 0} → (R → Option (List ℕ)) → TraceReader R → Row → Type 0
-ComesNext remaining t r = (line : List ℕ) × (bytes : List ℕ) × IsLineOf t r line × (bytes_left (λ s. source_remaining remaining s.now) t.records ≡ Some bytes) × BeginsWith line bytes
-
 -- a reader of the same trace: of the same plan, and in the same version
 abbrev pub IsOfTrace : {R : Type 0} → TraceReader R → TraceReader R → Type 0
 IsOfTrace old new = (new.version ≡ old.version) × (new.plan.now ≡ old.plan.now)
-
--- a read ahead has failed
-abbrev pub ahead_failed : {R : Type 0} → TraceReader R → Bool
-ahead_failed t = read_failed t.records
 
 abbrev pub is_failed : ReaderState → Bool
 is_failed Failed = true
@@ -114,11 +106,11 @@ pub record IsTextOf {R : Type 0} (t : TraceReader R) (texts : TextsModel) (n cor
 -- the bytes that were read ahead begin with the text of the tick, which is kept, and a further row may come
 pub record IsAtTick {R : Type 0} (n : ℕ) (t : TraceReader R) : Type 0 where
   pub state : t.state ≡ Rows
-  pub kept : t.foreseen.tick.tick ≡ n
+  pub kept : t.tick.tick ≡ n
   pub text : (after : List ℕ) × (bytes_ahead t.records ≡ decimal n ++ after)
 
 -- ---- the record that is refused
--- the record that a reader has read last, field by field
+-- the fields that a reader has read last, which after a refusal are those of the refused record
 abbrev pub record_read : {R : Type 0} → TraceReader R → List (List ℕ)
 record_read t = fields_of t.fields
 

@@ -27,7 +27,7 @@ pub(crate) struct Guesses {
 }
 
 impl Guesses {
-    ghost use Rattle.msrp_trace.specs.Foreseen.{guess_of};
+    ghost use Rattle.msrp_trace.specs.Guesses.{guess_of};
 
     /// Before any row.
     pub(crate) fn new() -> Guesses {

@@ -6,7 +6,6 @@
 #![tactic(auto)]
 
 mod faults;
-mod foreseen;
 mod guesses;
 mod job;
 pub mod laws;
@@ -18,7 +17,6 @@ mod rows;
 mod text;
 mod texts;
 mod tick;
-mod whole;
 mod words;
 mod writing;
 

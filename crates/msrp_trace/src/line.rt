@@ -1,12 +1,10 @@
 //! The text of one record as it is made, and what is kept of a core's last one.
-ghost use Rattle.msrp_plan.specs.Common.{[], codes, decimal, length, true, Some, None, option_map, flat_map, PlanModel, in_tick};
+ghost use Rattle.msrp_plan.specs.Common.{[], decimal, length, true, Some, None, flat_map};
 ghost use Rattle.msrp_plan.specs.Words.{kind_text};
 ghost use Rattle.std.specs.Prelude.{◌≡◌, ◌≤◌, ◌<◌, ◌+◌, ◌++◌, IsSomeAnd};
-ghost use Rattle.std.specs.Option.{IfSome};
 ghost use Rattle.msrp_trace.specs.Gathering.{next_field, after_tick};
-ghost use Rattle.msrp_trace.specs.Lines.{AreResTexts, IsCoreText, IsJobText, IsLine, IsWhole, is_same_place, job_fields};
-ghost use Rattle.msrp_trace.specs.Laws.{is_short, is_told_whole};
-ghost use Rattle.msrp_trace.specs.TraceText.{ahead_fields, dash, head_text, is_named, is_res_of, is_task_of, job_text, res_text, task_text};
+ghost use Rattle.msrp_trace.specs.Lines.{AreResTexts, IsCoreText, IsJobText, IsLine, is_same_place, job_fields};
+ghost use Rattle.msrp_trace.specs.TraceText.{ahead_fields, dash, head_text, is_named, is_res_of, is_task_of, res_text};
 
 use crate::job::JobText;
 use crate::res::ResTexts;
@@ -305,7 +303,6 @@ impl RowLine {
         ensures after { IsLine version plan.now self.new }
         ensures res_after { AreResTexts plan.now res.new }
         ensures text { self.new.text.line ≡ after_tick version plan.now row.now }
-        ensures whole { IsWhole version plan.now self.old → is_told_whole version plan.now row.now ≡ true → IsWhole version plan.now self.new }
     {
         if !self.is_of(row) {
             // The row is taken field by field, so that one that repeats is never laid down in memory as a whole.
@@ -319,20 +316,6 @@ impl RowLine {
             };
             self.text.make_apart(plan, version, &made, res);
             self.row = Some(made);
-        }
-    }
-
-    /// The row that is kept, as it is in another tick.
-    #[inline(always)]
-    pub(crate) fn in_tick(&self, tick: u32) -> Option<Row>
-        ensures row { result ≡ option_map (in_tick tick) self.now.row }
-        ensures tick { IfSome result (λ row. row.tick ≡ tick) }
-        ensures whole { (version : TextVersion) (plan : PlanModel) → IsWhole version plan self.now → IfSome result (λ row. is_short row.tick ≡ true → is_told_whole version plan row ≡ true) }
-        ensures text { (version : TextVersion) (plan : PlanModel) → IsLine version plan self.now → IfSome result (λ row. self.now.text.line ≡ after_tick version plan row) }
-    {
-        match self.row {
-            Some(row) => Some(row.in_tick(tick)),
-            None => None,
         }
     }
 

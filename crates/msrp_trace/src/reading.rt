@@ -1,26 +1,22 @@
 //! Trace text, read.
-ghost use Rattle.std.proofs.Props.{props};
-ghost use Rattle.std.specs.Prelude.{◌+◌, ◌++◌, ◌^◌, ◌<◌, ◌≤◌, ◌≡◌, ◌⊎◌, ◌↔◌};
-ghost use Rattle.msrp_plan.specs.Common.{flat_map, [], length, IsSome, decimal, ℕ, List, Some, None, Ok, Err, IfOk, IfErr, OnOk, OnErr, true, false, source_failed, source_remaining, IsPlan};
+ghost use Rattle.std.specs.Prelude.{◌+◌, ◌^◌, ◌<◌, ◌≤◌, ◌≡◌, ◌⊎◌, ◌↔◌};
+ghost use Rattle.msrp_plan.specs.Common.{[], length, IsSome, decimal, ℕ, List, Some, None, Ok, Err, IfOk, IfErr, OnOk, OnErr, true, false, source_failed, source_remaining};
 ghost use Rattle.std.specs.Option.{IfSome};
 ghost use Rattle.csv.specs.Records.{fields_of};
 ghost use Rattle.msrp_text.specs.Plain.{BeginsWithDigit};
 ghost use Rattle.msrp_text.specs.Lines.{BeginsIn, HasRead};
 ghost use Rattle.msrp_text.specs.Records.{bytes_ahead, csv_records, reader_under, reads_csv};
-ghost use Rattle.msrp_trace.specs.Foreseen.{AreTexts, AreTextsOf};
-ghost use Rattle.msrp_trace.specs.Laws.{as_read, is_told_whole};
+ghost use Rattle.msrp_trace.specs.Laws.{as_read};
 ghost use Rattle.msrp_trace.specs.Reading.{Told};
 ghost use Rattle.msrp_trace.specs.RowParts.{ReadsAt};
 ghost use Rattle.msrp_trace.specs.Rows.{row_fault, row_told};
 ghost use Rattle.msrp_trace.specs.Texts.{text_of_core};
-ghost use Rattle.msrp_trace.specs.TraceText.{row_text};
 
 use crate::faults::{TraceError, TraceFault};
-use crate::foreseen::Foreseen;
 use crate::guesses::Guesses;
 use crate::rows::{read_row, version_told};
 use crate::texts::{RowTexts, text_of};
-use crate::whole::{is_short, is_told_whole};
+use crate::tick::Tick;
 use csv::ByteRecord;
 use msrp_plan::bytes::Source;
 use msrp_plan::limits::MOST_CORES;
@@ -54,11 +50,11 @@ pub struct TraceReader<'a, R> {
     records: RecordReader<&'a mut Source<R>>,
     fields: ByteRecord,
     guesses: Guesses,
-    foreseen: Foreseen,
+    // The tick that was asked last, as text.
+    tick: Tick,
     version: TextVersion,
     number: u32,
     state: ReaderState,
-    ghost texts: { AreTexts version plan.now foreseen } by { Prim.hlevel props },
 }
 
 /// Why no reader of a trace's rows could be opened, and the first record, if one was read, with the line in which it begins, where that is known.
@@ -142,7 +138,7 @@ fn numbered_row(
 }
 
 impl<'a, R: Read> TraceReader<'a, R> {
-    ghost use Rattle.msrp_trace.specs.Readers.{BeginsAt, CanMeet, ComesNext, GivesFirstOr, GivesNext, HasReadBehind, HasReadIn, HasReadTo, HoldsUnlessFailed, IsAtTick, IsOfTrace, IsRecordOf, IsTextOf, Opens, StandsBehind, StandsIn, ahead_failed, error_of, has_failed, record_read, source_of, told_left};
+    ghost use Rattle.msrp_trace.specs.Readers.{BeginsAt, CanMeet, GivesFirstOr, GivesNext, HasReadBehind, HasReadIn, HasReadTo, HoldsUnlessFailed, IsAtTick, IsOfTrace, IsRecordOf, IsTextOf, Opens, StandsBehind, StandsIn, error_of, has_failed, record_read, source_of, told_left};
 
     /// The rows of all that a source has left, for a trace of the plan. R1 is refused here.
     #[inline(always)]
@@ -194,7 +190,7 @@ impl<'a, R: Read> TraceReader<'a, R> {
                 records,
                 fields,
                 guesses: Guesses::new(),
-                foreseen: Foreseen::new(),
+                tick: Tick::new(),
                 version,
                 number: 1,
                 state: ReaderState::Rows,
@@ -203,8 +199,8 @@ impl<'a, R: Read> TraceReader<'a, R> {
         }
     }
 
-    /// The record that was read last, field by field. After a refusal it is the refused one.
-    pub fn record(&self) -> &ByteRecord
+    /// After a refusal: the refused record, field by field. After a row it may be any earlier one.
+    pub fn refused_record(&self) -> &ByteRecord
         ensures { fields_of result.now ≡ record_read self.now }
     {
         &self.fields
@@ -235,61 +231,13 @@ impl<'a, R: Read> TraceReader<'a, R> {
         ensures stands { (records : List (List (List ℕ))) → StandsIn R.remaining records self.old → StandsBehind R.remaining records result self.new }
         ensures lines { (text : List ℕ) → HasReadIn R.remaining text self.old → HasReadBehind R.remaining text result self.new }
     {
-        self.next_foreseen(|_core| None)
-    }
-
-    /// Whether the next row is this one. Its text is compared with the bytes that come next. Where they are the same the row is
-    /// taken, as [`TraceReader::next_row`] takes it, and else nothing is. Where no whole line was read ahead, more is read. A
-    /// row with quotes in its text isn't met, nor is any once there were such.
-    #[inline(always)]
-    pub fn meets(&mut self, row: &Row) -> bool
-        ensures taken { result ≡ true → (told : Told) → told_left R.remaining self.old ≡ Some told → GivesNext told (Ok (Some row.now)) (told_left R.remaining self.new) }
-        ensures kept { result ≡ false → (told : Told) → told_left R.remaining self.old ≡ Some told → told_left R.remaining self.new ≡ Some told }
-        ensures same { has_failed self.new ≡ has_failed self.old }
-        ensures going { result ≡ true → has_failed self.old ≡ false }
-        ensures finds { CanMeet self.old row.now → result ≡ true }
-        ensures comes { ComesNext R.remaining self.old row.now → (result ≡ true) ⊎ (ahead_failed self.new ≡ true) }
-        ensures trace { IsOfTrace self.old self.new }
-        ensures stands { (records : List (List (List ℕ))) → StandsIn R.remaining records self.old → StandsIn R.remaining records self.new }
-        ensures lines { (text : List ℕ) → HasReadIn R.remaining text self.old → HasReadIn R.remaining text self.new }
-    {
-        let Some(next) = self.number.checked_add(1) else {
-            return false;
+        let answer = match self.state {
+            ReaderState::Rows => self.read_next(),
+            ReaderState::Ended => Ok(None),
+            ReaderState::Failed => Err(TraceError::Failed),
         };
-        if self.state != ReaderState::Rows {
-            return false;
-        }
-        if !is_told_whole(self.plan, self.version, row) {
-            return false;
-        }
-        self.foreseen.show(self.plan, self.version, row);
-        self.takes(row, next)
-    }
-
-    // Whether the texts that are here, which are those of the row, come next. Then they are taken.
-    #[inline(always)]
-    fn takes(&mut self, row: &Row, next: u32) -> bool
-        requires plan { IsPlan self.old.plan.now }
-        requires state { self.old.state ≡ ReaderState.Rows }
-        requires number { next ≡ self.old.number + 1 }
-        requires whole { is_told_whole self.old.version self.old.plan.now row.now ≡ true }
-        requires texts { AreTextsOf self.old.version self.old.plan.now row.now self.old.foreseen }
-        ensures taken { result ≡ true → (told : Told) → told_left R.remaining self.old ≡ Some told → GivesNext told (Ok (Some row.now)) (told_left R.remaining self.new) }
-        ensures kept { result ≡ false → (told : Told) → told_left R.remaining self.old ≡ Some told → told_left R.remaining self.new ≡ Some told }
-        ensures state { self.new.state ≡ ReaderState.Rows }
-        ensures texts { self.new.foreseen ≡ self.old.foreseen }
-        ensures finds { CanMeet self.old row.now → result ≡ true }
-        ensures comes { ComesNext R.remaining self.old row.now → (result ≡ true) ⊎ (ahead_failed self.new ≡ true) }
-        ensures trace { IsOfTrace self.old self.new }
-        ensures stands { (records : List (List (List ℕ))) → StandsIn R.remaining records self.old → StandsIn R.remaining records self.new }
-        ensures lines { (text : List ℕ) → HasReadIn R.remaining text self.old → HasReadIn R.remaining text self.new }
-    {
-        let (tick, line) = (self.foreseen.tick(), self.foreseen.line(row.core));
-        if !self.records.meets(tick, line) {
-            return false;
-        }
-        self.number = next;
-        true
+        self.state = ReaderState::after(&answer);
+        answer
     }
 
     /// The version that the first record tells.
@@ -335,7 +283,7 @@ impl<'a, R: Read> TraceReader<'a, R> {
         let line = text_of(&texts.lines, (core.0 % MOST_CORES) as usize);
         let met = self
             .records
-            .meets_behind(self.foreseen.tick(), line.as_bytes());
+            .meets_behind(self.tick.bytes(), line.as_bytes());
         if met {
             self.number = after;
         }
@@ -359,131 +307,14 @@ impl<'a, R: Read> TraceReader<'a, R> {
         let ReaderState::Rows = self.state else {
             return None;
         };
-        self.foreseen.to_tick(tick);
-        match self.records.digit_after(self.foreseen.tick()) {
+        self.tick.show(tick);
+        match self.records.digit_after(self.tick.bytes()) {
             Some(digit) => Some(CoreId(u32::from(digit - b'0'))),
             None => None,
         }
     }
 
-    // The next row, where it is its core's last one again, in another tick, as far as that one is kept. It is met as
-    // `meets` meets a row; where it isn't met nothing is taken.
-    #[inline(always)]
-    fn next_again(&mut self) -> Option<Row>
-        ensures taken { IfSome result (λ row. (told : Told) → told_left R.remaining self.old ≡ Some told → GivesNext told (Ok (Some row)) (told_left R.remaining self.new)) }
-        ensures kept { result ≡ None → (told : Told) → told_left R.remaining self.old ≡ Some told → told_left R.remaining self.new ≡ Some told }
-        ensures same { has_failed self.new ≡ has_failed self.old }
-        ensures going { ¬ (result ≡ None) → has_failed self.old ≡ false }
-        ensures trace { IsOfTrace self.old self.new }
-        ensures stands { (records : List (List (List ℕ))) → StandsIn R.remaining records self.old → StandsIn R.remaining records self.new }
-        ensures lines { (text : List ℕ) → HasReadIn R.remaining text self.old → HasReadIn R.remaining text self.new }
-    {
-        let Some(next) = self.number.checked_add(1) else {
-            return None;
-        };
-        self.foreseen.turn_to(self.records.ahead());
-        let Some(core) = self.core_guessed() else {
-            return None;
-        };
-        let Some(row) = self.foreseen.alike(core) else {
-            return None;
-        };
-        // Read so that the plan is known to be an accepted one.
-        let _accepted = self.plan.tasks();
-        if self.state == ReaderState::Rows && is_short(row.tick) && self.takes(&row, next) {
-            // Asked anew, so that the row isn't held while its text is compared.
-            return self.foreseen.last(core);
-        }
-        None
-    }
-
-    /// The next row, as [`TraceReader::next_row`] gives it, where a caller may foresee it. It is looked first whether its core
-    /// does its last row again, and then whether the row comes that `foresee` makes of the core; in version 1 the text of that
-    /// row leaves out the ahead, and so does the answer. Any other row is read.
-    #[inline(always)]
-    pub fn next_foreseen<F: FnOnce(CoreId) -> Option<Row>>(
-        &mut self,
-        foresee: F,
-    ) -> Result<Option<Row>, TraceError>
-        requires { F.IsAlwaysCallable foresee }
-        ensures next { (told : Told) → told_left R.remaining self.old ≡ Some told → GivesNext told result (told_left R.remaining self.new) }
-        ensures goes { OnOk result (has_failed self.new ≡ false) }
-        ensures fails { OnErr result (has_failed self.new ≡ true) }
-        ensures failed { has_failed self.old ≡ true → result ≡ Err TraceError.Failed }
-        ensures going { has_failed self.old ≡ false → ¬ (result ≡ Err TraceError.Failed) }
-        ensures read { result ≡ Err TraceError.Read → source_failed (source_of self.new) ≡ true }
-        ensures memory { result ≡ Err TraceError.Memory → source_failed (source_of self.new) ≡ false }
-        ensures trace { IsOfTrace self.old self.new }
-        ensures stands { (records : List (List (List ℕ))) → StandsIn R.remaining records self.old → StandsBehind R.remaining records result self.new }
-        ensures lines { (text : List ℕ) → HasReadIn R.remaining text self.old → HasReadBehind R.remaining text result self.new }
-    {
-        if let Some(row) = self.next_again() {
-            return Ok(Some(row));
-        }
-        self.next_anew(foresee)
-    }
-
-    // The next row, as by `next_foreseen`, but it isn't looked first whether the core does its last row again.
-    #[inline(never)]
-    fn next_anew<F: FnOnce(CoreId) -> Option<Row>>(
-        &mut self,
-        foresee: F,
-    ) -> Result<Option<Row>, TraceError>
-        requires { F.IsAlwaysCallable foresee }
-        ensures next { (told : Told) → told_left R.remaining self.old ≡ Some told → GivesNext told result (told_left R.remaining self.new) }
-        ensures goes { OnOk result (has_failed self.new ≡ false) }
-        ensures fails { OnErr result (has_failed self.new ≡ true) }
-        ensures failed { has_failed self.old ≡ true → result ≡ Err TraceError.Failed }
-        ensures going { has_failed self.old ≡ false → ¬ (result ≡ Err TraceError.Failed) }
-        ensures read { result ≡ Err TraceError.Read → source_failed (source_of self.new) ≡ true }
-        ensures memory { result ≡ Err TraceError.Memory → source_failed (source_of self.new) ≡ false }
-        ensures trace { IsOfTrace self.old self.new }
-        ensures stands { (records : List (List (List ℕ))) → StandsIn R.remaining records self.old → StandsBehind R.remaining records result self.new }
-        ensures lines { (text : List ℕ) → HasReadIn R.remaining text self.old → HasReadBehind R.remaining text result self.new }
-    {
-        if let Some(row) = self.core_guessed().and_then(foresee) {
-            let row = self.as_read(row);
-            if self.meets(&row) {
-                return Ok(Some(row));
-            }
-        }
-        self.read_row()
-    }
-
-    /// The core of the next row, guessed from the bytes that were read ahead. Nothing rests on it: there may be none, or
-    /// another.
-    #[inline(always)]
-    pub fn core_guessed(&self) -> Option<CoreId> {
-        let last = self.foreseen.tick().len();
-        match self.records.ahead().get(last + 1) {
-            Some(digit) if digit.is_ascii_digit() => Some(CoreId(u32::from(*digit - b'0'))),
-            _ => None,
-        }
-    }
-
-    // The next row, read field by field.
-    fn read_row(&mut self) -> Result<Option<Row>, TraceError>
-        ensures next { (told : Told) → told_left R.remaining self.old ≡ Some told → GivesNext told result (told_left R.remaining self.new) }
-        ensures goes { OnOk result (has_failed self.new ≡ false) }
-        ensures fails { OnErr result (has_failed self.new ≡ true) }
-        ensures failed { has_failed self.old ≡ true → result ≡ Err TraceError.Failed }
-        ensures going { has_failed self.old ≡ false → ¬ (result ≡ Err TraceError.Failed) }
-        ensures read { result ≡ Err TraceError.Read → source_failed (source_of self.new) ≡ true }
-        ensures memory { result ≡ Err TraceError.Memory → source_failed (source_of self.new) ≡ false }
-        ensures trace { IsOfTrace self.old self.new }
-        ensures stands { (records : List (List (List ℕ))) → StandsIn R.remaining records self.old → StandsBehind R.remaining records result self.new }
-        ensures lines { (text : List ℕ) → HasReadIn R.remaining text self.old → HasReadBehind R.remaining text result self.new }
-    {
-        let answer = match self.state {
-            ReaderState::Rows => self.read_next(),
-            ReaderState::Ended => Ok(None),
-            ReaderState::Failed => Err(TraceError::Failed),
-        };
-        self.state = ReaderState::after(&answer);
-        answer
-    }
-
-    // The next row where further rows may come. Its texts are kept for the next row of its core.
+    // The next row where further rows may come.
     fn read_next(&mut self) -> Result<Option<Row>, TraceError>
         requires { self.old.state ≡ ReaderState.Rows }
         ensures next { (told : Told) → told_left R.remaining self.old ≡ Some told → HoldsUnlessFailed result (GivesFirstOr told.rows told.refusal result (told_left R.remaining self.new)) }
@@ -512,7 +343,6 @@ impl<'a, R: Read> TraceReader<'a, R> {
             &self.fields,
             number,
         )?;
-        self.foreseen.keep(self.plan, self.version, &row);
         Ok(Some(row))
     }
 }

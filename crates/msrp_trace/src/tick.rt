@@ -58,17 +58,17 @@ impl Tick {
         self.tick = tick;
     }
 
-    /// The tick.
-    pub(crate) fn number(&self) -> u32
-        ensures { result ≡ self.now.tick }
-    {
-        self.tick
-    }
-
     /// The text.
     pub(crate) fn text(&self) -> &Text<NUMBER>
         ensures { result.now ≡ decimal self.now.tick }
     {
         &self.text
+    }
+
+    /// The bytes of the text.
+    pub(crate) fn bytes(&self) -> &[u8]
+        ensures { result.now ≡ decimal self.now.tick }
+    {
+        self.text.as_bytes()
     }
 }

@@ -2,8 +2,7 @@
 ghost use Rattle.std.specs.Prelude.{◌≡◌, ◌<◌, ◌++◌};
 ghost use Rattle.msrp_plan.specs.Common.{[], decimal, length, slice_index_or, true, false, OnOk, OnErr, All, list_all, carries_ahead, Wrote, sink_failed};
 ghost use Rattle.msrp_trace.specs.Gathering.{Gathers, after_tick};
-ghost use Rattle.msrp_trace.specs.Laws.{is_told_whole};
-ghost use Rattle.msrp_trace.specs.Lines.{AreResTexts, IsLine, IsWhole};
+ghost use Rattle.msrp_trace.specs.Lines.{AreResTexts, IsLine};
 ghost use Rattle.msrp_trace.specs.declared.line.RowLine.{RowLine as Kept};
 ghost use Rattle.msrp_trace.specs.Texts.{text_of_core};
 ghost use Rattle.msrp_trace.specs.TraceText.{head_text, is_named, is_res_of, is_task_of, row_text, trace_text};
@@ -47,7 +46,7 @@ impl<'a> Model for TraceWriter<'a> {
 
 // Makes the line of a core's row.
 #[inline(always)]
-pub(crate) fn show_line(
+fn show_line(
     lines: &mut [RowLine],
     core: usize,
     plan: &Plan,
@@ -62,7 +61,6 @@ pub(crate) fn show_line(
     ensures after { All (IsLine version plan.now) lines.new }
     ensures res_after { AreResTexts plan.now res.new }
     ensures text { (d : Kept) → (slice_index_or lines.new core d).text.line ≡ after_tick version plan.now row.now }
-    ensures whole { All (IsWhole version plan.now) lines.old → is_told_whole version plan.now row.now ≡ true → All (IsWhole version plan.now) lines.new }
 {
     lines[core].show(plan, version, row, res);
 }

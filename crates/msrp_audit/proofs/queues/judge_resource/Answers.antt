@@ -48,7 +48,7 @@ loop-index-preserved c =
           let at = w.row-row.ensures x in
           let more = one_more rows i x within at in
           record {
-            has = subst (λ q. HasTaken q res.0 (take (i + 1) rows)) (sym w.requests-is) (subst (HasTaken w.take.new.self res.0) (sym more) (w.in_ok-take.ensures res.0 (take i rows) v.has));
+            has = subst (λ q. HasTaken q res.0 (take (i + 1) rows)) (sym w.requests-is) (subst (HasTaken w.take.new.self res.0) (sym more) (w.in_ok-take.ensures.taken res.0 (take i rows) v.has));
             passes = reply_passes plan res rows i x at v.passes w.queue-queue.result.now glob (w.queue-queue.ensures res.0 _ v.has) w.is_reply.result (ap (λ (r : Row). is_on res.0 r.res) at ∙ (sym (c.names.ensures x) ∙ w.if-names.true)) w.is_reply.ensures w.if-not-is_reply.false;
           }
       | else-names w ↦

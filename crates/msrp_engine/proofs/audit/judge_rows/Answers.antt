@@ -30,7 +30,7 @@ pub returns-in-Broken-clause-found : goal.returns-in-Broken-clause-found
 returns-in-Broken-clause-found g c = λ told known.
     let i = c.loop-row.invariant in
     let e = c.next_row.ensures in
-    inr (inr (sym (broken-found g.T.Read.remaining _ _ _ i.0 c.next_row.result _ c.in-Broken.fault told i.1 (next-gives g.T.Read.remaining _ _ _ i.0 c.next_row.result i.1 e.plan e.gives e.judged) (c.in_ok-_row.was ∙ ap (λ x. Ok x) c.in-Broken.is) known)))
+    inr (inr (sym (broken-found g.T.Read.remaining _ _ _ i.0 c.next_row.result _ c.in-Broken.broken told i.1 (next-gives g.T.Read.remaining _ _ _ i.0 c.next_row.result i.1 e.plan e.gives e.judged) (c.in_ok-_row.was ∙ ap (λ x. Ok x) c.in-Broken.is) known)))
 
 pub returns-in-End-clause-found : goal.returns-in-End-clause-found
 returns-in-End-clause-found g c = λ told known.

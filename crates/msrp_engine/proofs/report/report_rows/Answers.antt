@@ -45,8 +45,8 @@ pub returns-in-Broken-clause-found : goal.returns-in-Broken-clause-found
 returns-in-Broken-clause-found g c = λ told known.
     let i = c.loop-counter.invariant in
     let e = c.next_row.ensures in
-    let found = broken-found g.T.Read.remaining _ _ _ i.0 c.next_row.result _ c.in-Broken.fault told i.1 (next-gives g.T.Read.remaining _ _ _ i.0 c.next_row.result i.1 e.plan e.gives e.judged) (c.in_ok-row.was ∙ ap (λ x. Ok x) c.in-Broken.is) known in
-    reported-fault c.args.rows.now.auditor.plan told c.in-Broken.fault found
+    let found = broken-found g.T.Read.remaining _ _ _ i.0 c.next_row.result _ c.in-Broken.broken told i.1 (next-gives g.T.Read.remaining _ _ _ i.0 c.next_row.result i.1 e.plan e.gives e.judged) (c.in_ok-row.was ∙ ap (λ x. Ok x) c.in-Broken.is) known in
+    reported-fault c.args.rows.now.auditor.plan told c.in-Broken.broken.fault found
 
 pub ended-requires : goal.ended-requires
 ended-requires g c = (c.loop-counter.invariant.0, c.loop-counter.invariant.3)

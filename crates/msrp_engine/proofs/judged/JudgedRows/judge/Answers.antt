@@ -1,6 +1,6 @@
-use Rattle.std.proofs.Common.{◌++◌, ◌∷◌, ◌∙◌}
-use Rattle.msrp_plan.proofs.Common.{[], ap, PlanModel, fault_in}
-use Rattle.msrp_engine.proofs.Judging.{good-answer}
+use Rattle.std.proofs.Common.{◌<◌, ◌*◌, ◌++◌, ◌∷◌, ◌∙◌}
+use Rattle.msrp_plan.proofs.Common.{[], ap, sym, subst, true≢false, PlanModel, fault_in}
+use Rattle.msrp_engine.proofs.Judging.{fault-answer, good-answer, turn-as}
 use Rattle.msrp_engine.proofs.KeptTexts.{keeps_same}
 use Rattle.msrp_engine.proofs.judged.JudgedRows.judge.Goals as goal
 
@@ -16,3 +16,14 @@ returns-in-Ok-clause-judged g c = λ rows awaits tick.
       fed,
       fed.fault ∙ (ap (λ (p : PlanModel). fault_in p (rows ++ c.args.row ∷ [])) e.plan ∙ good-answer (fault_in c.args.self.now.auditor.plan (rows ++ c.args.row ∷ [])) c.in-Ok.field-0 (e.answer rows awaits tick)),
     )
+
+pub returns-in-Err-clause-judged : goal.returns-in-Err-clause-judged
+returns-in-Err-clause-judged g c = λ rows awaits tick.
+    let plan = c.args.self.now.auditor.plan in
+    let left = subst (λ n. n < plan.cores * plan.ticks) awaits.count c.requires.left in
+    let turn = turn-as plan rows c.args.expected c.args.row (sym awaits.next.core) tick awaits.next.legal.turn in
+    record {
+      fault = fault-answer (fault_in plan (rows ++ c.args.row ∷ [])) c.in-Err.fault (c.in-Err.ensures.answer rows awaits tick);
+      turn = λ _ _. awaits.next;
+      out = λ o. absurd (true≢false (sym turn ∙ o left));
+    }

@@ -4,7 +4,7 @@ use Rattle.msrp_sim.specs.Cores.{CoresModel, Leaves, MakesNext, StandOn, again_o
 use Rattle.msrp_core.specs.Machine.{MachineModel, next_known}
 use Rattle.msrp_sim.specs.CoresView.{cores_view}
 use Rattle.msrp_sim.specs.TurnPorts.{unless_granted}
-use Rattle.msrp_sim.proofs.Foreseeing.{has_machine, left}
+use Rattle.msrp_sim.proofs.OwnMachine.{has_machine, left}
 use Rattle.msrp_sim.proofs.Repeating.{core_if, with_machine, none_if, kept_if, leaves_if, next_if, stand_if}
 use Rattle.msrp_sim.proofs.cores.Cores.repeat.Goals as goal
 

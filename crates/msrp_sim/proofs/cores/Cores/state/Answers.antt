@@ -4,7 +4,7 @@ use Rattle.msrp_core.specs.CoreStates.{IsCoreState}
 use Rattle.msrp_sim.specs.Cores.{CoresModel, StandFor}
 use Rattle.msrp_sim.specs.CoresView.{cores_view}
 use Rattle.msrp_sim.proofs.CoreStates.{core_state}
-use Rattle.msrp_sim.proofs.Foreseeing.{has_machine}
+use Rattle.msrp_sim.proofs.OwnMachine.{has_machine}
 use Rattle.msrp_sim.proofs.cores.Cores.state.Goals as goal
 
 pub returns : goal.returns

@@ -3,7 +3,7 @@ use Rattle.msrp_plan.proofs.Common.{Some, slice_get, length, refl, ap, sym, subs
 use Rattle.msrp_core.specs.Machine.{MachineModel}
 use Rattle.msrp_sim.specs.Cores.{CoresModel, IsSomeTurn, Leaves, MakesNext, StandOn, TakesTurn}
 use Rattle.msrp_sim.specs.CoresView.{cores_view}
-use Rattle.msrp_sim.proofs.Foreseeing.{has_machine, left}
+use Rattle.msrp_sim.proofs.OwnMachine.{has_machine, left}
 use Rattle.msrp_sim.proofs.Repeating.{at_core, leaves}
 use Rattle.msrp_sim.proofs.Turns.{next_legal}
 use Rattle.msrp_sim.proofs.Standing.{stand_push}

@@ -1,6 +1,4 @@
-use Rattle.std.proofs.Common.{◌∙◌, ◌++◌}
-use Rattle.msrp_plan.proofs.Common.{ℕ, List, ap, append_assoc}
-use Rattle.msrp_text.proofs.AheadBytes.{keeps-keeps}
+use Rattle.std.proofs.Common.{◌∙◌}
 use Rattle.msrp_text.proofs.records.RecordReader.read_line_ahead.Goals as goal
 
 pub loop-self-preserved : goal.loop-self-preserved
@@ -9,10 +7,8 @@ loop-self-preserved g c =
     let next = c.read_ahead.ensures in
     record {
       same = λ left known. next.same left (before.same left known);
-      bytes = keeps-keeps _ _ _ before.bytes next.bytes;
       stop = next.stop ∙ before.stop;
       still = λ bytes number read. next.still bytes number (before.still bytes number read);
-      grows = (before.grows.0 ++ next.grows.0, next.grows.1 ∙ ap (λ (t : List ℕ). t ++ next.grows.0) before.grows.1 ∙ append_assoc _ before.grows.0 next.grows.0);
     }
 
 pub returns-else-read_ahead-clause-still : goal.returns-else-read_ahead-clause-still

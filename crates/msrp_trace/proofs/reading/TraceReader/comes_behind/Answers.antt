@@ -10,7 +10,7 @@ use Rattle.msrp_trace.proofs.Lining.{record_more}
 use Rattle.msrp_trace.proofs.reading.TraceReader.comes_behind.Goals as goal
 
 pub meets_behind-met-requires : goal.meets_behind-met-requires
-meets_behind-met-requires g c = (c.requires.text.0, c.requires.text.1 ∙ ap (λ (t : List ℕ). t ++ c.requires.text.0) (sym (c.tick.ensures ∙ ap decimal c.requires.kept)))
+meets_behind-met-requires g c = (c.requires.text.0, c.requires.text.1 ∙ ap (λ (t : List ℕ). t ++ c.requires.text.0) (sym (c.bytes.ensures ∙ ap decimal c.requires.kept)))
 
 pub returns-then-met-clause-some : goal.returns-then-met-clause-some
 returns-then-met-clause-some g c = λ yes none.
@@ -21,8 +21,8 @@ pub returns-then-met-clause-taken : goal.returns-then-met-clause-taken
 returns-then-met-clause-taken g c = λ yes row told is h.
     let old = c.args.self.now in
     let text = c.as_bytes.ensures ∙ (c.text_of-line.ensures ∙ (ap (λ (t : TextsModel). text_of_core t c.args.core.0) c.texts.view_is ∙ is.text)) in
-    let tick : c.tick.result.now ≡ decimal row.tick = c.tick.ensures ∙ ap decimal (c.requires.kept ∙ sym is.tick) in
-    let line = row_line old.version old.plan.now row c.tick.result.now _ tick refl in
+    let tick : c.bytes.result.now ≡ decimal row.tick = c.bytes.ensures ∙ ap decimal (c.requires.kept ∙ sym is.tick) in
+    let line = row_line old.version old.plan.now row c.bytes.result.now _ tick refl in
     let number : c.in-Some.after ≡ old.number + 1 = search rules in
     met_row old.version old.plan.now old.number c.in-Some.after row _ _ _ old.state told c.tasks-accepted.ensures.plan is.whole line (c.meets_behind-met.ensures.taken c.if-met.true _ text) number c.requires.state h
 
@@ -33,16 +33,16 @@ pub returns-else-met-clause-finds : goal.returns-else-met-clause-finds
 returns-else-met-clause-finds g c = λ row is can.
     let old = c.args.self.now in
     let text = c.as_bytes.ensures ∙ (c.text_of-line.ensures ∙ (ap (λ (t : TextsModel). text_of_core t c.args.core.0) c.texts.view_is ∙ is.text)) in
-    let tick : c.tick.result.now ≡ decimal row.tick = c.tick.ensures ∙ ap decimal (c.requires.kept ∙ sym is.tick) in
-    let line = row_line old.version old.plan.now row c.tick.result.now _ tick refl in
-    c.meets_behind-met.ensures.ahead _ text (row_begins can.0 c.tick.result.now _ _ _ line can.1.text can.2)
+    let tick : c.bytes.result.now ≡ decimal row.tick = c.bytes.ensures ∙ ap decimal (c.requires.kept ∙ sym is.tick) in
+    let line = row_line old.version old.plan.now row c.bytes.result.now _ tick refl in
+    c.meets_behind-met.ensures.ahead _ text (row_begins can.0 c.bytes.result.now _ _ _ line can.1.text can.2)
 
 pub returns-then-met-clause-stands : goal.returns-then-met-clause-stands
 returns-then-met-clause-stands g c = λ row records is stands.
     let old = c.args.self.now in
     let text = c.as_bytes.ensures ∙ (c.text_of-line.ensures ∙ (ap (λ (t : TextsModel). text_of_core t c.args.core.0) c.texts.view_is ∙ is.text)) in
-    let tick : c.tick.result.now ≡ decimal row.tick = c.tick.ensures ∙ ap decimal (c.requires.kept ∙ sym is.tick) in
-    let line = row_line old.version old.plan.now row c.tick.result.now _ tick refl in
+    let tick : c.bytes.result.now ≡ decimal row.tick = c.bytes.ensures ∙ ap decimal (c.requires.kept ∙ sym is.tick) in
+    let line = row_line old.version old.plan.now row c.bytes.result.now _ tick refl in
     let number : c.in-Some.after ≡ old.number + 1 = search rules in
     let plain = whole_line old.version old.plan.now row _ c.tasks-accepted.ensures.plan is.whole line in
     line_stands records old.number c.in-Some.after _ _ _ (c.meets_behind-met.ensures.taken c.if-met.true _ text plain.0) number stands
@@ -57,8 +57,8 @@ pub returns-then-met-clause-lines : goal.returns-then-met-clause-lines
 returns-then-met-clause-lines g c = λ row bytes is read.
     let old = c.args.self.now in
     let text = c.as_bytes.ensures ∙ (c.text_of-line.ensures ∙ (ap (λ (t : TextsModel). text_of_core t c.args.core.0) c.texts.view_is ∙ is.text)) in
-    let tick : c.tick.result.now ≡ decimal row.tick = c.tick.ensures ∙ ap decimal (c.requires.kept ∙ sym is.tick) in
-    let line = row_line old.version old.plan.now row c.tick.result.now _ tick refl in
+    let tick : c.bytes.result.now ≡ decimal row.tick = c.bytes.ensures ∙ ap decimal (c.requires.kept ∙ sym is.tick) in
+    let line = row_line old.version old.plan.now row c.bytes.result.now _ tick refl in
     let number : c.in-Some.after ≡ old.number + 1 = search rules in
     let plain = whole_line old.version old.plan.now row _ c.tasks-accepted.ensures.plan is.whole line in
     record_more _ bytes old.number c.in-Some.after _ number (c.meets_behind-met.ensures.line c.if-met.true _ text plain.0 bytes old.number read)

@@ -49,9 +49,6 @@ returns-clause-refused g c = λ bytes known.
     let next = gave-one _ _ _ _ (c.in-Ok-true.ensures.next (csv_records bytes) (rw known at c.new-records.ensures.left)) c.in-Ok-true.field-0-test in
     head_refused (csv_records bytes) _ _ c.no_head-in-None.ensures.error (ap fields_of c.no_head-in-None.ensures.first ∙ ap (λ records. record_at records 0) (sym next.1))
 
-pub invariant_of-result : goal.invariant_of-result
-invariant_of-result g c = record { texts = c.new-in-Some-2.ensures c.in-Some.version c.args.plan.now }
-
 pub returns-in-Some-clause-lines : goal.returns-in-Some-clause-lines
 returns-in-Some-clause-lines g c = λ bytes known. c.in-Ok-true.ensures.line (ap (λ b. Ok b) c.in-Ok-true.field-0-test) bytes 0 (c.new-records.ensures.start bytes known)
 

@@ -1,6 +1,6 @@
 use Rattle.msrp_trace.proofs.Telling.{ended_again, failed_left, gives_next}
-use Rattle.msrp_trace.proofs.reading.TraceReader.read_row.Goals.{in-Rows, in-Ended, in-Failed}
-use Rattle.msrp_trace.proofs.reading.TraceReader.read_row.Goals as goal
+use Rattle.msrp_trace.proofs.reading.TraceReader.next_row.Goals.{in-Rows, in-Ended, in-Failed}
+use Rattle.msrp_trace.proofs.reading.TraceReader.next_row.Goals as goal
 
 pub returns-clause-next : goal.returns-clause-next
 returns-clause-next g c = λ told h. elim c.match-self.branch [
