@@ -1,6 +1,6 @@
 -- Records by their places, and the last place that passes a test.
 use Rattle.std.proofs.Common.{◌≡◌, ◌∙◌, ◌+◌, ◌<◌, ◌&&◌, if◌then◌else◌}
-use Rattle.msrp_plan.proofs.Common.{ℕ, Bool, true, false, List, [], None, Some, ap, sym, refl, add-one, any_map, codes, drop, length, list_any, map, not, slice_index_or, get_or-map}
+use Rattle.msrp_plan.proofs.Common.{ℕ, Bool, true, List, [], None, Some, ap, sym, refl, add-one, any_map, codes, drop, length, list_any, map, not, slice_index_or, get_or-map}
 use Rattle.std.proofs.lemmas.List.{drop-map}
 use Rattle.csv.specs.Records.{Row, fields_of}
 use Rattle.msrp_text.specs.Reading.{record_at}
@@ -18,15 +18,9 @@ unfolding last_place
 last-none test = refl
 
 -- one place more
-pub last-more : (test : ℕ → Bool) (n : ℕ) → last_place test (n + 1) ≡ (if test n then Some n else last_place test n)
+pub last-more : (test : ℕ → Bool) (n : ℕ) (b : Bool) → test n ≡ b → (if b then Some n else last_place test n) ≡ last_place test (n + 1)
 unfolding last_place
-last-more test n = rw add-one refl
-
-pub last-is : (test : ℕ → Bool) (n : ℕ) → test n ≡ true → Some n ≡ last_place test (n + 1)
-last-is test n e = sym (last-more test n ∙ ap (λ b. if b then Some n else last_place test n) e)
-
-pub last-kept : (test : ℕ → Bool) (n : ℕ) → test n ≡ false → last_place test n ≡ last_place test (n + 1)
-last-kept test n e = sym (last-more test n ∙ ap (λ b. if b then Some n else last_place test n) e)
+last-more test n b e = rw add-one (ap (λ c. if c then Some n else last_place test n) (sym e))
 
 -- a lock at a place is open if no later record unlocks its resource
 pub open-is : (before : List Row) (i : ℕ) (lock : Row) (undone : Bool) → i < length before → lock ≡ slice_index_or before i lock → true ≡ is_op (codes "lock") (fields_of lock)

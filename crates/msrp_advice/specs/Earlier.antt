@@ -1,4 +1,5 @@
--- The earlier record that a refusal concerns, by its place among the records before the refused one, counted from 0.
+-- The earlier record that a refusal concerns, by its place among the records before the refused
+-- one, counted from 0.
 use Rattle.std.specs.Prelude.{◌&&◌, if◌then◌else◌}
 use Rattle.msrp_plan.specs.Common.{ℕ, zero, suc, Bool, false, List, length, Option, Some, None, codes}
 use Rattle.msrp_text.specs.Fields.{has_word}
@@ -7,8 +8,9 @@ use Rattle.msrp_advice.specs.Records.{is_same, declares_same, is_op, is_open, is
 use Rattle.msrp_plan.specs.declared.faults.PlanFault.{PlanFault}
 use Rattle.msrp_plan.specs.declared.faults.PlanFault.TheVariants.{OutOfPlace, Taken, Nesting, NoUnit, Releases}
 
--- the record at a place is one that a refusal may concern, by its fault and the fields of the refused record: the declaration of its name, a lock
--- that is open, that of its resource if it locks one, a release, or a task
+-- the record at a place is one that a refusal may concern, by its fault and the fields of the
+-- refused record: the declaration of its name, a lock that is open, that of its resource if it
+-- locks one, a release, or a task
 abbrev pub is_sought : PlanFault → List (List (List ℕ)) → List (List ℕ) → ℕ → Bool
 is_sought Taken before fields i = declares_same fields (record_at before i)
 is_sought OutOfPlace before fields i = has_word fields 0 (codes "resource") && is_task (record_at before i)

@@ -1,17 +1,17 @@
 -- What is odd in an accepted plan.
-use Rattle.std.specs.Prelude.{◌*◌, ◌==◌, ◌&&◌, if◌then◌else◌}
-use Rattle.msrp_plan.specs.Common.{ℕ, Bool, length, nat_le, nat_lt, not, list_any, range_with_len, sum_by, job_at, jobs_of, top, PlanModel, key, task_at}
+use Rattle.std.specs.Prelude.{◌*◌, ◌==◌, ◌&&◌}
+use Rattle.msrp_plan.specs.Common.{ℕ, Bool, filter, length, nat_le, nat_lt, not, list_any, range_with_len, sum_by, job_at, jobs_of, top, PlanModel, key, task_at}
 use Rattle.msrp_levels.specs.Users.{users}
 use Rattle.msrp_advice.specs.declared.warnings.Warning.{Warning}
 use Rattle.msrp_advice.specs.declared.warnings.Warning.TheVariants.{NoJob, ShortDeadline, UnusedResource, IdleCore, Overload, NoDeadline}
 
--- how many units the jobs of a task have, if it is a task of that core
-abbrev pub units_of : PlanModel → ℕ → ℕ → ℕ
-units_of plan core task = if (task_at plan task).core == core then length (jobs_of plan task) * length (task_at plan task).units else 0
+-- how many units the jobs of a task have
+abbrev pub units_of : PlanModel → ℕ → ℕ
+units_of plan task = length (jobs_of plan task) * length (task_at plan task).units
 
--- how many units the jobs of a core have
+-- how many units the jobs of a core have: those of its tasks
 abbrev pub core_units : PlanModel → ℕ → ℕ
-core_units plan core = sum_by (units_of plan core) (range_with_len 0 (length plan.tasks))
+core_units plan core = sum_by (units_of plan) (filter (λ task. (task_at plan task).core == core) (range_with_len 0 (length plan.tasks)))
 
 -- a task has a job, and the first of them has its absolute deadline within the ticks
 abbrev pub has_deadline : PlanModel → ℕ → Bool

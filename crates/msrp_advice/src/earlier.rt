@@ -26,8 +26,9 @@ fn is_sought(fault: PlanFault, before: &[ByteRecord], row: &ByteRecord, i: usize
     }
 }
 
-/// The place among the records before a refused one, counted from 0, of the one that the refusal concerns: the declaration of a
-/// name that is taken, the lock that is open, the release or the task before.
+/// The place among the records before a refused one, counted from 0, of the one that the refusal
+/// concerns: the declaration of a name that is taken, the lock that is open, the release or the
+/// task before.
 pub fn earlier_record(fault: PlanFault, before: &[ByteRecord], row: &ByteRecord) -> Option<usize>
     ensures { result ≡ spec.earlier_record fault (map fields_of before.now) (fields_of row.now) }
 {

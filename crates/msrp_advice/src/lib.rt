@@ -1,7 +1,8 @@
 //! What is wrong with a refused plan, and what is odd in an accepted one, in words.
 //!
-//! [`RefusedPlan`] says why a record is refused, and shows it with the earlier records that the refusal concerns. [`AcceptedPlan`] lists
-//! the [`Warning`]s on a plan. Which records and which warnings these are is proved; their sentences are tested.
+//! [`RefusedPlan`] says why a record is refused, and shows it with the earlier records that the
+//! refusal concerns. [`AcceptedPlan`] lists the [`Warning`]s on a plan. Which records and which
+//! warnings these are is proved; their sentences are tested.
 #![tactic(auto)]
 
 mod earlier;

@@ -11,7 +11,8 @@ use msrp_plan::limits::{MOST_CORES, MOST_RESOURCES};
 use msrp_text::fields::{has_word, name_at};
 use std::fmt::{self, Formatter, Write};
 
-/// Where a task locks a global resource while it holds another, by the places of both locks among the records.
+/// Where a task locks a global resource while it holds another, by the places of both locks among
+/// the records.
 #[derive(Clone, Copy, Debug, PartialEq, Eq)]
 pub struct NestedLocks {
     pub outer: usize,
@@ -117,11 +118,9 @@ impl Users {
     }
 
     /// The users of a lock's resource.
-    pub fn of(&self, records: &[ByteRecord], lock: &ByteRecord) -> Cores {
-        match self.0.get(resource_of(records, lock)) {
-            Some(cores) => *cores,
-            None => Cores(0),
-        }
+    pub fn of(&self, records: &[ByteRecord], lock: Option<&ByteRecord>) -> Cores {
+        let cores = lock.and_then(|lock| self.0.get(resource_of(records, lock)));
+        cores.copied().unwrap_or(Cores(0))
     }
 }
 
@@ -130,7 +129,7 @@ fn first_nested(records: &[ByteRecord]) -> Option<NestedLocks> {
     let users = Users::among(records);
     let mut held: Option<(usize, &ByteRecord)> = None;
     for (inner, row) in records.iter().enumerate() {
-        if is_op(b"lock", row) && users.of(records, row).0.count_ones() > 1 {
+        if is_op(b"lock", row) && users.of(records, Some(row)).0.count_ones() > 1 {
             match held {
                 Some((outer, _)) => return Some(NestedLocks { outer, inner }),
                 None => held = Some((inner, row)),
@@ -146,10 +145,5 @@ fn first_nested(records: &[ByteRecord]) -> Option<NestedLocks> {
 pub fn nested_locks(records: &[ByteRecord]) -> Option<NestedLocks>
     ensures { IfSome result (λ locks. AreNested records.now locks.outer locks.inner) }
 {
-    let locks = first_nested(records)?;
-    if are_nested(records, locks) {
-        Some(locks)
-    } else {
-        None
-    }
+    first_nested(records).filter(|locks| are_nested(records, *locks))
 }

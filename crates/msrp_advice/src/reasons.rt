@@ -1,9 +1,10 @@
 //! Why a record is refused, in words.
 //!
-//! A reason is a sentence with holes: `{it}` stands for the field that is wrong, `{task}` for the name of the task that is read, and so on.
+//! A reason is a sentence with holes: `{it}` stands for the field that is wrong, `{task}` for the
+//! name of the task that is read, and so on.
 
 use crate::earlier::earlier_record;
-use crate::nested::{Users, nested_locks};
+use crate::nested::{NestedLocks, Users, nested_locks};
 use crate::records::{busiest_task, field, is_op, is_open, is_task, jobs_of, number_told};
 use crate::refused::RefusedPlan;
 use crate::shown::{Count, Shown};
@@ -13,7 +14,8 @@ use msrp_plan::limits::{LONGEST_TIME, MOST_HELD};
 use msrp_text::fields::{has_word, name_at, number_at};
 use std::fmt::{self, Formatter, Write};
 
-// How a record is written, and of how many fields; the first place of its numbers, and what they are.
+// How a record is written, and of how many fields; the first place of its numbers, and what they
+// are.
 type Form = (&'static str, usize, usize, &'static [&'static str]);
 
 const OPERATION: &str = "op,run,UNITS or op,lock,NAME or op,unlock,NAME";
@@ -52,10 +54,7 @@ fn is_padded(field: &[u8]) -> bool {
 
 // A field of a record, where there is a record.
 fn shown(row: Option<&ByteRecord>, i: usize) -> Shown<'_> {
-    match row {
-        Some(row) => Shown(field(row, i)),
-        None => Shown(b""),
-    }
+    Shown(row.map_or(b"", |row| field(row, i)))
 }
 
 impl<'a> RefusedPlan<'a> {
@@ -150,11 +149,8 @@ impl<'a> RefusedPlan<'a> {
 
     // P7
     fn limit(&self) -> &'static str {
-        let mut held = 0usize;
-        for i in 0..self.before.len() {
-            held = held.saturating_add(usize::from(is_open(self.before, i)));
-        }
-        let row = self.row;
+        let (row, before) = (self.row, self.before);
+        let held = (0..before.len()).filter(|i| is_open(before, *i)).count();
         match (name_at(row, 0), self.place()) {
             ("cores", _) => "cores is {it}; must be 1 to 8",
             ("ticks", _) => "ticks is {it}; must be 1 to 20,000",
@@ -231,25 +227,27 @@ impl<'a> RefusedPlan<'a> {
     // The task, the locks and the cores of a nested lock.
     fn write_nested<W: Write>(&self, f: &mut Formatter<W>) -> fmt::Result {
         let before = self.before;
-        let Some(locks) = nested_locks(before) else {
+        let Some(NestedLocks { outer, inner }) = nested_locks(before) else {
             return Ok(());
         };
-        let (Some(outer), Some(inner)) = (before.get(locks.outer), before.get(locks.inner)) else {
-            return Ok(());
-        };
-        let (task, users) = (self.task_at(locks.inner), Users::among(before));
-        let (name, held) = (shown(Some(inner), 2), shown(Some(outer), 2));
-        let (cores, held_cores) = (users.of(before, inner), users.of(before, outer));
+        let (task, users) = (self.task_at(inner), Users::among(before));
+        let (name, cores) = (
+            shown(before.get(inner), 2),
+            users.of(before, before.get(inner)),
+        );
         write!(f, ": task {task} locks {name} (used on cores {cores})")?;
-        write!(f, " while it holds {held} (used on cores {held_cores})")
+        let (name, cores) = (
+            shown(before.get(outer), 2),
+            users.of(before, before.get(outer)),
+        );
+        write!(f, " while it holds {name} (used on cores {cores})")
     }
 
     // The task that releases the most jobs.
     fn write_most<W: Write>(&self, f: &mut Formatter<W>) -> fmt::Result {
-        let before = self.before;
-        match busiest_task(before).and_then(|i| before.get(i)) {
+        match busiest_task(self.before).and_then(|i| self.before.get(i)) {
             Some(task) => {
-                let (name, jobs) = (shown(Some(task), 1), jobs_of(before, task));
+                let (name, jobs) = (Shown(field(task, 1)), jobs_of(self.before, task));
                 write!(f, "; task {name} releases most: {jobs}")
             }
             None => Ok(()),
@@ -272,10 +270,10 @@ impl<'a> RefusedPlan<'a> {
             "form" => f.write_str(form),
             "task" => write!(f, "{}", self.task_at(before.len())),
             "held" => write!(f, "{}", shown(self.earlier(), 2)),
-            "cores" => match before.get(1) {
-                Some(cores) => write!(f, "{}", Count(u128::from(number_told(cores, 1)), "core")),
-                None => Ok(()),
-            },
+            "cores" => {
+                let cores = before.get(1).map_or(0, |row| number_told(row, 1));
+                write!(f, "{}", Count(u128::from(cores), "core"))
+            }
             "last" => write!(f, "{}", shown(before.last(), 1)),
             "nested" => self.write_nested(f),
             _ => self.write_most(f),
@@ -284,10 +282,7 @@ impl<'a> RefusedPlan<'a> {
 
     /// Writes why the record is refused.
     pub(crate) fn write_reason<W: Write>(&self, f: &mut Formatter<W>) -> fmt::Result {
-        let sentence = match self.file() {
-            Some(sentence) => sentence,
-            None => self.sentence(),
-        };
+        let sentence = self.file().unwrap_or_else(|| self.sentence());
         for piece in sentence.split('}') {
             match piece.split_once('{') {
                 Some((text, hole)) => {

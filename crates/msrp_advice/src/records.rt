@@ -47,10 +47,7 @@ pub(crate) fn number_told(row: &ByteRecord, i: usize) -> u32
 
 /// A field of a record, empty where there is none.
 pub fn field(row: &ByteRecord, i: usize) -> &[u8] {
-    match row.get(i) {
-        Some(field) => field,
-        None => b"",
-    }
+    row.get(i).unwrap_or(b"")
 }
 
 /// Whether a record is an operation of that word on the resource of a lock.
@@ -87,23 +84,14 @@ pub(crate) fn is_open(before: &[ByteRecord], i: usize) -> bool
 /// How many jobs a periodic task releases within the ticks, which the third record has.
 pub(crate) fn jobs_of(records: &[ByteRecord], task: &ByteRecord) -> u32 {
     let (period, offset) = (number_told(task, 3), number_told(task, 5));
-    let ticks = match records.get(2) {
-        Some(row) => number_told(row, 1),
-        None => 0,
-    };
-    if period == 0 {
-        0
-    } else {
-        ticks.saturating_sub(offset).div_ceil(period)
-    }
+    let ticks = records.get(2).map_or(0, |row| number_told(row, 1));
+    ticks.saturating_sub(offset).div_ceil(period.max(1))
 }
 
 /// The place of a periodic task that releases the most jobs.
 pub(crate) fn busiest_task(records: &[ByteRecord]) -> Option<usize> {
     let rows = records.iter().enumerate();
     let tasks = rows.filter(|(_, row)| has_word(row, 0, b"task"));
-    match tasks.max_by_key(|(_, row)| jobs_of(records, row)) {
-        Some((place, _)) => Some(place),
-        None => None,
-    }
+    let busiest = tasks.max_by_key(|(_, row)| jobs_of(records, row));
+    busiest.map(|(place, _)| place)
 }

@@ -12,8 +12,8 @@ use std::fmt::{self, Formatter, Write};
 // What may come before the first record.
 const BYTE_ORDER_MARK: &[u8] = b"\xef\xbb\xbf";
 
-/// A refused plan, in words: where it is refused, the code, the reason, and the refused record; then the same of each earlier record that
-/// the refusal concerns.
+/// A refused plan, in words: where it is refused, the code, the reason, and the refused record;
+/// then the same of each earlier record that the refusal concerns.
 #[derive(Clone, Copy)]
 pub struct RefusedPlan<'a> {
     /// What the plan is called, as its file.
@@ -29,8 +29,8 @@ pub struct RefusedPlan<'a> {
     pub row: &'a ByteRecord,
 }
 
-// The line in which the record of that number begins, both counted from 1. It isn't known after a quote, since a quoted field may hold
-// line ends.
+// The line in which the record of that number begins, both counted from 1. It isn't known after a
+// quote, since a quoted field may hold line ends.
 fn line_of(text: &[u8], number: usize) -> Option<usize> {
     let (mut records, mut line) = (0usize, 0usize);
     let mut last = b'\n';

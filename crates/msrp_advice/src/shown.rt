@@ -24,7 +24,8 @@ impl fmt::Display for Shown<'_> {
     }
 }
 
-/// The first fields of a record, each in brackets, so that blanks are seen. A record without fields is the end of the text.
+/// The first fields of a record, each in brackets, so that blanks are seen. A record without fields
+/// is the end of the text.
 #[derive(Clone, Copy)]
 pub struct ShownRecord<'a>(pub &'a ByteRecord);
 

@@ -1,6 +1,6 @@
 //! What is odd in an accepted plan.
-ghost use Rattle.std.specs.Prelude.{◌≡◌, ◌<◌, ◌||◌};
-ghost use Rattle.msrp_plan.specs.Common.{length, list_any, range_with_len, IfOk, OnOk};
+ghost use Rattle.std.specs.Prelude.{◌≡◌, ◌==◌, ◌<◌, ◌||◌, if◌then◌else◌};
+ghost use Rattle.msrp_plan.specs.Common.{length, list_any, range_with_len, task_at, IfOk, OnOk};
 ghost use Rattle.msrp_advice.specs.Warnings.{core_units, has_deadline, units_of, is_odd};
 ghost use Rattle.std.specs.List.{AllPass};
 
@@ -15,21 +15,14 @@ use std::fmt::{self, Formatter, Write};
 pub enum Warning {
     /// A task releases no job within the ticks.
     NoJob(TaskId),
-    /// A task has more units than its relative deadline has ticks.
-    ShortDeadline {
-        task: TaskId,
-        units: u32,
-        deadline: u32,
-    },
+    /// A task has more units than its relative deadline has ticks; with both numbers.
+    ShortDeadline(TaskId, u32, u32),
     /// No task locks a resource.
     UnusedResource(ResId),
     /// A core has no task.
     IdleCore(CoreId),
     /// The jobs of a core have so many units, more than the plan has ticks.
-    Overload {
-        core: CoreId,
-        units: u128,
-    },
+    Overload(CoreId, u128),
     /// No job has its absolute deadline within the ticks.
     NoDeadline,
 }
@@ -40,7 +33,7 @@ type Made = Result<(), AllocError>;
 // How many units the jobs of a task have, if it is a task of that core.
 fn units_of(plan: &Plan, core: CoreId, task: TaskId) -> u64
     requires { task.0 < length plan.now.tasks }
-    ensures { result ≡ units_of plan.now core.0 task.0 }
+    ensures { result ≡ if (task_at plan.now task.0).core == core.0 then units_of plan.now task.0 else 0 }
 {
     if plan.core_of(task) == core {
         u64::from(plan.jobs(task)) * u64::from(plan.units(task))
@@ -95,11 +88,7 @@ fn warn_of_tasks(plan: &Plan, warnings: &mut Vec<Warning>) -> Made
         let task = TaskId(task);
         warn_if(plan.jobs(task) == 0, plan, warnings, Warning::NoJob(task))?;
         let (units, deadline) = (plan.units(task), plan.deadline(task));
-        let short = Warning::ShortDeadline {
-            task,
-            units,
-            deadline,
-        };
+        let short = Warning::ShortDeadline(task, units, deadline);
         warn_if(deadline < units, plan, warnings, short)?;
     }
     Ok(())
@@ -129,7 +118,7 @@ fn warn_of_cores(plan: &Plan, levels: &Levels<'_>, warnings: &mut Vec<Warning>) 
         warn_if(is_idle, plan, warnings, Warning::IdleCore(core))?;
         let units = core_units(plan, core);
         let is_more = u128::from(plan.ticks()) < units;
-        warn_if(is_more, plan, warnings, Warning::Overload { core, units })?;
+        warn_if(is_more, plan, warnings, Warning::Overload(core, units))?;
     }
     Ok(())
 }
@@ -161,31 +150,23 @@ pub struct AcceptedPlan<'a> {
 
 // A warning on a plan, in words.
 fn write_warning<W: Write>(f: &mut Formatter<W>, plan: &Plan, warning: Warning) -> fmt::Result {
-    let all = u128::from(plan.ticks());
-    let ticks = Count(all, "tick");
+    let ticks = Count(u128::from(plan.ticks()), "tick");
     match warning {
         Warning::NoJob(task) => {
             let name = task_name(plan, task);
             write!(f, "task {name} releases no job within the plan ({ticks})")
         }
-        Warning::ShortDeadline {
-            task,
-            units,
-            deadline,
-        } => {
-            write!(
-                f,
-                "task {} can't meet its deadline: ",
-                task_name(plan, task)
-            )?;
+        Warning::ShortDeadline(task, units, deadline) => {
+            let name = task_name(plan, task);
+            write!(f, "task {name} can't meet its deadline: ")?;
             write!(f, "needs {units} ticks, has {deadline}")
         }
         Warning::UnusedResource(res) => {
             write!(f, "resource {} is locked by no task", res_name(plan, res))
         }
         Warning::IdleCore(core) => write!(f, "core {} has no task", core.0),
-        Warning::Overload { core, units } => {
-            let (work, percent) = (Count(units, "tick"), units.saturating_mul(100) / all);
+        Warning::Overload(core, units) => {
+            let (work, percent) = (Count(units, "tick"), units.saturating_mul(100) / ticks.0);
             write!(f, "core {} is overloaded: ", core.0)?;
             write!(f, "{work} of work in {ticks} ({percent} %)")
         }

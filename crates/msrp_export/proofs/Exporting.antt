@@ -1,9 +1,8 @@
 -- What an exporter keeps, with one more row.
-use Rattle.std.proofs.Common.{◌≡◌, ◌≢◌, ◌+◌, ◌-◌, ◌*◌, ◌<◌, ◌∷◌, ◌++◌, ◌∙◌, ◌≤◌, ◌^◌}
-use Rattle.msrp_plan.proofs.Common.{ℕ, List, [], ap, sym, subst, arith, length, PlanModel, length-append, take-append-le, take_all}
+use Rattle.std.proofs.Common.{◌≡◌, ◌≢◌, ◌+◌, ◌-◌, ◌*◌, ◌<◌, ◌∷◌, ◌++◌, ◌≤◌, ◌^◌}
+use Rattle.msrp_plan.proofs.Common.{ℕ, List, [], sym, subst, arith, length, PlanModel, length-append, take-append-le, take_all}
 use Rattle.msrp_plan.specs.declared.rows.Row.{Row}
-use Rattle.msrp_export.specs.Exports.{HasTaken, TellTick}
-use Rattle.msrp_export.specs.Ticks.{rows_before, rows_in}
+use Rattle.msrp_export.specs.Ticks.{HasTaken, TellTick, rows_before, rows_in}
 use Rattle.msrp_export.specs.declared.exporter.Exporter.{Exporter}
 use Rattle.msrp_export.specs.Summaries.{Summarizes}
 use Rattle.msrp_export.specs.declared.signals.Signals.{Signals}
@@ -60,24 +59,23 @@ told e l rows r h latest =
     }
 
 -- one more row that isn't the last one of the tick
-pub went : (e : Exporter) (s : Signals) (n : ℕ) (rows : List Row) (r : Row) → HasTaken e rows → s ≡ record e.signals { latest = s.latest } → Summarizes s.latest (rows ++ r ∷ []) → n ≡ e.turns + 1 → n ≢ e.signals.plan.now.cores
-    → HasTaken (record e { signals = s; turns = n }) (rows ++ r ∷ [])
-went e s n rows r h same latest next other =
+pub went : (e : Exporter) (l : Summary) (n : ℕ) (rows : List Row) (r : Row) → HasTaken e rows → Summarizes l (rows ++ r ∷ []) → n ≡ e.turns + 1 → n ≢ e.signals.plan.now.cores
+    → HasTaken (record e { signals = record e.signals { latest = l }; turns = n }) (rows ++ r ∷ [])
+went e l n rows r h latest next other =
     let size = h.size in
     let turns = h.turns in
     let longer = length_push rows r in
-    subst (λ (t : Signals). HasTaken (record e { signals = t; turns = n }) (rows ++ r ∷ [])) (sym same) (record {
+    record {
       plan = h.plan;
       size = omega (arith, size, longer, next);
       turns = omega (arith, turns, next, other);
-      signals = told e s.latest rows r h latest;
-    })
+      signals = told e l rows r h latest;
+    }
 
 -- the last row of the tick, and the next tick
-pub ended : (e : Exporter) (s t : Signals) (rows : List Row) (r : Row) (x : Exporter) → HasTaken e rows → length rows + 1 < 2 ^ 32 → s ≡ record e.signals { latest = s.latest } → Summarizes s.latest (rows ++ r ∷ [])
-    → e.turns + 1 ≡ e.signals.plan.now.cores → (s.tick + 1 < 2 ^ 32 → t ≡ record s { tick = s.tick + 1; earlier = s.before; before = s.latest })
-    → HasTaken (record e { signals = t; turns = 0; text = x.text }) (rows ++ r ∷ [])
-ended e s t rows r x h few same latest last next =
+pub ended : (e : Exporter) (l : Summary) (t : Signals) (rows : List Row) (r : Row) (x : Exporter) → HasTaken e rows → length rows + 1 < 2 ^ 32 → Summarizes l (rows ++ r ∷ []) → e.turns + 1 ≡ e.signals.plan.now.cores
+    → (e.signals.tick + 1 < 2 ^ 32 → t ≡ record e.signals { tick = e.signals.tick + 1; earlier = e.signals.before; before = l; latest = l }) → HasTaken (record e { signals = t; turns = 0; text = x.text }) (rows ++ r ∷ [])
+ended e l t rows r x h few latest last next =
     let plan = e.signals.plan.now in
     let tick = e.signals.tick in
     let all = rows ++ r ∷ [] in
@@ -85,18 +83,15 @@ ended e s t rows r x h few same latest last next =
     let turns = h.turns in
     let longer = length_push rows r in
     let low = tick_fits e rows h in
-    let now : s.tick ≡ tick = ap (λ (x : Signals). x.tick) same in
     let product = more tick plan.cores in
-    let full = told e s.latest rows r h latest in
-    let is : t ≡ record e.signals { tick = tick + 1; earlier = e.signals.before; before = s.latest; latest = s.latest } =
-    next (omega (arith, now, low, few)) ∙ ap (λ (x : Signals). record x { tick = x.tick + 1; earlier = x.before; before = x.latest }) same in
-    subst (λ (u : Signals). HasTaken (record e { signals = u; turns = 0; text = x.text }) all) (sym is) (record {
+    let full = told e l rows r h latest in
+    subst (λ (u : Signals). HasTaken (record e { signals = u; turns = 0; text = x.text }) all) (sym (next (omega (arith, low, few)))) (record {
       plan = h.plan;
       size = omega (arith, size, longer, last, product);
       turns = omega (arith, turns);
       signals = record {
         earlier = subst (λ n. Summarizes e.signals.before (rows_before plan all n)) (sym (less-one tick)) full.before;
         before = full.latest;
-        latest = subst (Summarizes s.latest) (sym (all_in plan all (tick + 1) (omega (arith, size, turns, longer, product)))) latest;
+        latest = subst (Summarizes l) (sym (all_in plan all (tick + 1) (omega (arith, size, turns, longer, product)))) latest;
       };
     })

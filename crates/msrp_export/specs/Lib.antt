@@ -1,4 +1,3 @@
 pub mod Signals
 pub mod Ticks
 pub mod Summaries
-pub mod Exports

@@ -29,13 +29,9 @@ gives_up _ = false
 abbrev pub last_row : ℕ → List Row → Option Row
 last_row c rows = fold (λ _ r. Some r) None (log_of c rows)
 
--- what a core does in a row
-abbrev pub action_of : Row → CoreAction
-action_of r = record { kind = r.kind; job = r.job; resource = r.res }
-
 -- what a core does: what its last row says
 abbrev pub core_action : ℕ → List Row → Option CoreAction
-core_action c rows = option_map action_of (last_row c rows)
+core_action c rows = option_map (λ r. record { kind = r.kind; job = r.job; resource = r.res }) (last_row c rows)
 
 -- ---- tasks
 -- the job is one of the task
@@ -43,21 +39,17 @@ abbrev pub is_job_of : ℕ → Option JobId → Bool
 is_job_of t None = false
 is_job_of t (Some j) = j.task.0 == t
 
--- the row is one of a job of the task
-abbrev pub is_row_of_task : ℕ → Row → Bool
-is_row_of_task t r = is_job_of t r.job
-
 -- the units that the jobs of a task have done: their rows without those in which they wait
 abbrev pub work : ℕ → List Row → ℕ
-work t rows = count_by (λ r. is_row_of_task t r && not (is_waiting r.kind)) rows
+work t rows = count_by (λ r. is_job_of t r.job && not (is_waiting r.kind)) rows
 
 -- how often the jobs of a task came to hold a resource
 abbrev pub acquired : ℕ → List Row → ℕ
-acquired t rows = count_by (λ r. is_row_of_task t r && acquires r.kind) rows
+acquired t rows = count_by (λ r. is_job_of t r.job && acquires r.kind) rows
 
 -- how often they gave one up
 abbrev pub given_up : ℕ → List Row → ℕ
-given_up t rows = count_by (λ r. is_row_of_task t r && gives_up r.kind) rows
+given_up t rows = count_by (λ r. is_job_of t r.job && gives_up r.kind) rows
 
 -- the first job of a task that isn't finished: each job of the task has all its units
 abbrev pub job_after : PlanModel → List Row → ℕ → JobId
@@ -66,7 +58,7 @@ job_after plan rows t = job_at t (work t rows / length (task_at plan t).units)
 -- the last row of a core, if it is one of the task in this tick
 abbrev pub row_in : ℕ → ℕ → Option Row → Option Row
 row_in tick t None = None
-row_in tick t (Some r) = if (r.tick == tick) && is_row_of_task t r then Some r else None
+row_in tick t (Some r) = if (r.tick == tick) && is_job_of t r.job then Some r else None
 
 -- a released job spins if it waits in its row; else it holds a resource, even if another job runs;
 -- else it runs if it has a row

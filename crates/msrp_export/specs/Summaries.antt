@@ -1,9 +1,7 @@
 -- What is kept of rows in place of the rows.
-use Rattle.std.specs.Prelude.{◌≡◌, ◌<◌, ◌≤◌, ◌+◌, ◌&&◌, if◌then◌else◌, filter_map}
+use Rattle.std.specs.Prelude.{◌≡◌, ◌<◌, ◌+◌, ◌&&◌, if◌then◌else◌, filter_map}
 use Rattle.msrp_plan.specs.Common.{ℕ, List, None, count_by, is_some, length, not, slice_index_or, is_waiting, most_cores, most_resources, most_tasks, is_release, is_release_of, is_request, requester}
 use Rattle.msrp_plan.specs.declared.rows.Row.{Row}
-use Rattle.msrp_plan.specs.declared.times.Times.{Times}
-use Rattle.msrp_plan.specs.declared.times.Times.TheVariants.{Every, Listed}
 use Rattle.msrp_export.specs.Signals.{acquired, acquires, given_up, gives_up, holder, holder_by, last_row, work}
 use Rattle.msrp_export.specs.declared.summary.ResourceUse.{ResourceUse}
 use Rattle.msrp_export.specs.declared.summary.Summary.{Summary}
@@ -46,8 +44,3 @@ pub record Summarizes (s : Summary) (rows : List Row) : Type 0 where
   pub last_rows : (c : ℕ) → c < most_cores → slice_index_or s.last_rows c None ≡ last_row c rows
   pub tasks : (t : ℕ) → t < most_tasks → slice_index_or s.tasks t no_counts ≡ counts_of t rows
   pub uses : (g : ℕ) → g < most_resources → slice_index_or s.uses g no_use ≡ use_of g rows
-
--- a list of releases has none of this number
-abbrev pub IsPast : Times → ℕ → Type 0
-IsPast (Every period offset) k = ⊥
-IsPast (Listed count) k = count ≤ k

@@ -1,8 +1,11 @@
--- The states of each core, task and resource in a tick and in the tick before. A tick has one row of each core.
-use Rattle.std.specs.Prelude.{if◌then◌else◌, ◌<◌, ◌+◌, ◌-◌, ◌*◌}
-use Rattle.msrp_plan.specs.Common.{ℕ, List, take, length, nat_eq, None, PlanModel, Option, Some, option_map}
+-- The states of each core, task and resource in a tick and in the tick before, and the rows that an exporter has taken. A tick has one row of each core.
+use Rattle.std.specs.Prelude.{if◌then◌else◌, ◌≡◌, ◌<◌, ◌+◌, ◌-◌, ◌*◌}
+use Rattle.msrp_plan.specs.Common.{ℕ, List, take, length, nat_eq, None, PlanModel, Option, Some, option_map, IsPlan}
 use Rattle.msrp_plan.specs.declared.rows.Row.{Row}
 use Rattle.msrp_export.specs.Signals.{core_action, resource_state, task_status}
+use Rattle.msrp_export.specs.Summaries.{Summarizes}
+use Rattle.msrp_export.specs.declared.exporter.Exporter.{Exporter}
+use Rattle.msrp_export.specs.declared.signals.Signals.{Signals}
 use Rattle.msrp_export.specs.declared.signals.State.{State}
 use Rattle.msrp_export.specs.declared.signals.State.TheVariants.{Core as CoreState, Resource as StateOfResource, Task as StateOfTask}
 use Rattle.msrp_export.specs.declared.tracks.Track.{Track}
@@ -34,3 +37,17 @@ state_in plan rows tick track = state_of plan (rows_before plan rows tick) (rows
 -- in the tick before, if there is one
 abbrev pub state_before : PlanModel → List Row → ℕ → Track → Option State
 state_before plan rows tick track = if nat_eq tick 0 then None else state_in plan rows (tick - 1) track
+
+-- what is kept is that of these rows: of those before the tick before, those before the tick, and
+-- those up to its end
+pub record TellTick (s : Signals) (rows : List Row) : Type 0 where
+  pub earlier : Summarizes s.earlier (rows_before s.plan.now rows (s.tick - 1))
+  pub before : Summarizes s.before (rows_before s.plan.now rows s.tick)
+  pub latest : Summarizes s.latest (rows_in s.plan.now rows s.tick)
+
+-- the exporter has taken these rows
+pub record HasTaken (e : Exporter) (rows : List Row) : Type 0 where
+  pub plan : IsPlan e.signals.plan.now
+  pub size : length rows ≡ e.signals.tick * e.signals.plan.now.cores + e.turns
+  pub turns : e.turns < e.signals.plan.now.cores
+  pub signals : TellTick e.signals rows

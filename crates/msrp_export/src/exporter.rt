@@ -2,7 +2,7 @@
 ghost use Rattle.std.specs.Prelude.{◌≡◌, ◌<◌, ◌+◌, ◌++◌, ◌∷◌, ◌^◌};
 ghost use Rattle.msrp_plan.specs.Common.{[], List, length, WroteSome};
 ghost use Rattle.msrp_plan.specs.declared.rows.Row.{Row as TraceRow};
-ghost use Rattle.msrp_export.specs.Exports.{HasTaken};
+ghost use Rattle.msrp_export.specs.Ticks.{HasTaken};
 
 use crate::formats::Format;
 use crate::signals::Signals;
@@ -71,7 +71,7 @@ impl<'a> Exporter<'a> {
         ensures plan { self.new.signals.plan ≡ self.old.signals.plan }
         ensures taken { (rows : List TraceRow) → HasTaken self.old rows → length rows + 1 < 2 ^ 32 → HasTaken self.new (rows ++ row ∷ []) }
     {
-        self.signals.take(row);
+        self.signals.latest.take(row);
         self.turns = next(self.turns);
         if self.turns != self.signals.plan.cores() {
             return Ok(());

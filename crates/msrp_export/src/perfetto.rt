@@ -8,7 +8,7 @@ use crate::tracks::Track;
 use crate::walk::Written;
 use bstr::ByteSlice;
 use msrp_plan::{JobId, Kind, Plan, Row, Rule};
-use std::fmt::Write;
+use std::fmt::{Display, Write};
 
 /// What comes before the names of the tracks.
 pub(crate) const HEAD: &str =
@@ -22,6 +22,10 @@ pub(crate) const HEAD: &str =
 
 /// What comes after the last event.
 pub(crate) const END: &str = "\n]}\n";
+
+// The process of the verdict.
+const VERDICT: &str =
+    ",\n{\"ph\":\"M\",\"pid\":400,\"name\":\"process_name\",\"args\":{\"name\":\"verdict\"}},\n";
 
 /// What a slice shows: a core's rows of one kind, job and resource; the ticks of a task in one
 /// state with one job; those of a resource with one holder.
@@ -43,11 +47,8 @@ pub(crate) fn write_track(text: &mut String, plan: &Plan, track: Track) -> Writt
     }
     text.push_str(r#""}}"#)?;
     begin_event(text, 'M', track)?;
-    let number = track.number();
-    write!(
-        text,
-        r#","name":"thread_sort_index","args":{{"sort_index":{number}}}}}"#
-    )
+    text.push_str(r#","name":"thread_sort_index","#)?;
+    write!(text, r#""args":{{"sort_index":{}}}}}"#, track.number())
 }
 
 /// Writes what a tick changes on a track.
@@ -57,13 +58,11 @@ pub(crate) fn write_change(text: &mut String, change: &Change<'_>) -> Written {
         end_slice(text, change.track, change.tick, before)?;
         begin_slice(text, change, now)?;
     }
-    match change.now {
-        Some(State::Task(now)) => {
-            write_missed_deadline(text, change, now)?;
-            write_arrow(text, change, now)
-        }
-        _ => Ok(()),
-    }
+    let Some(State::Task(now)) = change.now else {
+        return Ok(());
+    };
+    write_missed_deadline(text, change, now)?;
+    write_arrow(text, change, now)
 }
 
 /// Ends the slice that is open on a track, if there is one.
@@ -79,15 +78,11 @@ pub(crate) fn write_fault(
     rule: Rule,
     row: Option<Row>,
 ) -> Written {
-    let rule = rule.code().as_bstr();
-    let row = FaultyRow(plan, row);
-    text.push_str(",\n")?;
-    text.push_str(r#"{"ph":"M","pid":400,"name":"process_name","args":{"name":"verdict"}}"#)?;
-    text.push_str(",\n")?;
-    write!(
-        text,
-        r#"{{"ph":"i","pid":400,"tid":1,"ts":{tick},"s":"g","name":"fault {rule}","args":{{"rule":"{rule}","row":"{row}"}}}}"#
-    )
+    let (rule, row) = (rule.code().as_bstr(), FaultyRow(plan, row));
+    text.push_str(VERDICT)?;
+    write!(text, r#"{{"ph":"i","pid":400,"tid":1,"ts":{tick},"#)?;
+    write!(text, r#""s":"g","name":"fault {rule}","#)?;
+    write!(text, r#""args":{{"rule":"{rule}","row":"{row}"}}}}"#)
 }
 
 // The slice of a state, if it has one.
@@ -120,7 +115,7 @@ fn begin_event_at(text: &mut String, phase: char, track: Track, tick: u32) -> Wr
 }
 
 // Writes the name of an event, and the job that it is about.
-fn end_event(text: &mut String, name: &str, job: JobName<'_>) -> Written {
+fn end_event<T: Display>(text: &mut String, name: &T, job: JobName<'_>) -> Written {
     write!(text, r#","name":"{name}","args":{{"job":"{job}"}}}}"#)
 }
 
@@ -139,22 +134,16 @@ fn begin_slice(text: &mut String, change: &Change<'_>, slice: Option<Slice>) -> 
     let plan = change.plan;
     begin_event_at(text, 'B', change.track, change.tick)?;
     match slice {
-        Slice::Action(
-            CoreAction {
-                kind,
-                job,
-                resource,
-            },
-        ) => {
-            let (job, action) = (JobName(plan, job), kind.word().as_bstr());
-            let resource = resource_name(plan, resource);
-            write!(text, r#","name":"{job} {action}","args":{{"job":"{job}","#)?;
-            write!(text, r#""action":"{action}","resource":"{resource}"}}}}"#)
+        Slice::Action(action) => {
+            let (job, kind) = (JobName(plan, action.job), action.kind.word().as_bstr());
+            let resource = resource_name(plan, action.resource);
+            write!(text, r#","name":"{job} {kind}","args":{{"job":"{job}","#)?;
+            write!(text, r#""action":"{kind}","resource":"{resource}"}}}}"#)
         }
-        Slice::State(state, job) => end_event(text, state_name(state), JobName(plan, Some(job))),
+        Slice::State(state, job) => end_event(text, &state_name(state), JobName(plan, Some(job))),
         Slice::Holder(job) => {
             let job = JobName(plan, Some(job));
-            write!(text, r#","name":"{job}","args":{{"job":"{job}"}}}}"#)
+            end_event(text, &job, job)
         }
     }
 }
@@ -168,18 +157,16 @@ fn write_missed_deadline(text: &mut String, change: &Change<'_>, now: TaskStatus
     }
     begin_event_at(text, 'i', change.track, change.tick)?;
     text.push_str(r#","s":"t""#)?;
-    end_event(text, "deadline missed", JobName(change.plan, Some(now.job)))
+    let job = JobName(change.plan, Some(now.job));
+    end_event(text, &"deadline missed", job)
 }
 
 // Writes the beginning of an arrow at a request that joins a queue, or its end at the grant. Each request has an arrow of
 // its own: its number is made of the task and the units that the task had done.
 fn write_arrow(text: &mut String, change: &Change<'_>, now: TaskStatus) -> Written {
-    let Some(row) = now.row else {
-        return Ok(());
-    };
-    let (phase, end) = match row.kind {
-        Kind::Queue => ('s', "}"),
-        Kind::Grant => ('f', r#","bp":"e"}"#),
+    let (row, phase, end) = match now.row {
+        Some(row) if row.kind == Kind::Queue => (row, 's', "}"),
+        Some(row) if row.kind == Kind::Grant => (row, 'f', r#","bp":"e"}"#),
         _ => return Ok(()),
     };
     let id = u64::from(now.work) * 64 + u64::from(change.track.number());

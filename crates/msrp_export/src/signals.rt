@@ -2,14 +2,13 @@
 ghost use Rattle.std.specs.Prelude.{◌≡◌, ◌<◌, ◌+◌, ◌++◌, ◌∷◌, ◌^◌};
 ghost use Rattle.msrp_plan.specs.Common.{[], List, length, IsPlan};
 ghost use Rattle.msrp_plan.specs.declared.rows.Row.{Row as TraceRow};
-ghost use Rattle.msrp_export.specs.Exports.{TellTick};
 ghost use Rattle.msrp_export.specs.Summaries.{Summarizes};
-ghost use Rattle.msrp_export.specs.Ticks.{IsTrack, state_before, state_in, state_of};
+ghost use Rattle.msrp_export.specs.Ticks.{IsTrack, TellTick, state_before, state_in, state_of};
 
 use crate::summary::{Summary, next};
 use crate::tasks::{TaskStatus, task_status};
 use crate::tracks::Track;
-use msrp_plan::{JobId, Kind, Plan, ResId, Row};
+use msrp_plan::{JobId, Kind, Plan, ResId};
 
 /// What a core does.
 #[derive(Clone, Copy, PartialEq, Eq)]
@@ -71,7 +70,7 @@ pub(crate) struct Signals<'a> {
     // What the rows say: those before the previous tick, those before the tick, and all.
     earlier: Summary,
     before: Summary,
-    latest: Summary,
+    pub(crate) latest: Summary,
 }
 
 impl<'a> Signals<'a> {
@@ -89,14 +88,6 @@ impl<'a> Signals<'a> {
             before: none,
             latest: none,
         }
-    }
-
-    /// Takes the next row.
-    pub(crate) fn take(&mut self, row: Row)
-        ensures kept { self.new ≡ record self.old { latest = self.new.latest } }
-        ensures latest { (rows : List TraceRow) → Summarizes self.old.latest rows → length rows + 1 < 2 ^ 32 → Summarizes self.new.latest (rows ++ row ∷ []) }
-    {
-        self.latest.take(row);
     }
 
     /// Goes on to the next tick.

@@ -1,6 +1,6 @@
 //! What the rows so far say of each core, task and resource.
 ghost use Rattle.std.specs.Prelude.{◌≡◌, ◌<◌, ◌+◌, ◌++◌, ◌∷◌, ◌^◌};
-ghost use Rattle.msrp_plan.specs.Common.{ℕ, [], List, None, cond, length, slice_index_or, is_waiting, most_cores, most_resources, most_tasks, fifo, is_request};
+ghost use Rattle.msrp_plan.specs.Common.{ℕ, [], List, None, cond, length, slice_index_or, is_waiting, most_cores, most_resources, most_tasks};
 ghost use Rattle.msrp_plan.specs.declared.rows.Row.{Row as TraceRow};
 ghost use Rattle.msrp_export.specs.Signals.{acquires, core_action, gives_up, holder_by, last_row, resource_state};
 ghost use Rattle.msrp_export.specs.Summaries.{Summarizes, counts_of, counted, no_counts, no_use, use_of, used};
@@ -55,12 +55,6 @@ pub(crate) fn waits(kind: Kind) -> bool
     ensures { result ≡ is_waiting kind }
 {
     matches!(kind, Kind::Queue | Kind::Spin)
-}
-
-fn is_request(kind: Kind) -> bool
-    ensures { result ≡ is_request kind }
-{
-    matches!(kind, Kind::Take | Kind::Queue)
 }
 
 /// One more.
@@ -119,17 +113,12 @@ impl ResourceUse {
     fn with_row(self, row: Row) -> ResourceUse
         ensures { self.requests + 1 < 2 ^ 32 → self.releases + 1 < 2 ^ 32 → result ≡ used row self }
     {
+        let requests = matches!(row.kind, Kind::Take | Kind::Queue);
         ResourceUse {
             holder: self.holder_by(row),
-            requests: one_more(self.requests, row.job.is_some() && is_request(row.kind)),
+            requests: one_more(self.requests, row.job.is_some() && requests),
             releases: one_more(self.releases, row.kind == Kind::Release),
         }
-    }
-
-    fn queue_length(self) -> u32
-        ensures { (g : ℕ) (rows : List TraceRow) → self ≡ use_of g rows → result ≡ length (fifo g rows) }
-    {
-        self.requests.saturating_sub(self.releases)
     }
 }
 
@@ -173,21 +162,14 @@ impl Summary {
         self.tasks[task.0 as usize]
     }
 
-    fn use_of(&self, res: ResId) -> ResourceUse
-        requires { res.0 < most_resources }
-        ensures { (rows : List TraceRow) → Summarizes self.now rows → result ≡ use_of res.0 rows }
-    {
-        self.uses[res.0 as usize]
-    }
-
     pub(crate) fn resource_state(&self, resource: ResId) -> ResourceState
         requires { resource.0 < most_resources }
         ensures { (rows : List TraceRow) → Summarizes self.now rows → result ≡ resource_state resource.0 rows }
     {
-        let used = self.use_of(resource);
+        let used = self.uses[resource.0 as usize];
         ResourceState {
             holder: used.holder,
-            queue_length: used.queue_length(),
+            queue_length: used.requests.saturating_sub(used.releases),
         }
     }
 

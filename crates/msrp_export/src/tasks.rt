@@ -1,11 +1,10 @@
 //! What a task does in a tick.
 ghost use Rattle.std.specs.Prelude.{◌≡◌, ◌<◌, ◌≤◌, ◌^◌, ◌*◌, if◌then◌else◌};
-ghost use Rattle.msrp_plan.specs.Common.{false, List, length, true, release, IsPlan};
+ghost use Rattle.msrp_plan.specs.Common.{List, length, release, IsPlan};
 ghost use Rattle.msrp_plan.specs.Limits.{longest_time};
-ghost use Rattle.msrp_plan.specs.Times.{HasRelease};
 ghost use Rattle.msrp_plan.specs.declared.rows.Row.{Row as TraceRow};
 ghost use Rattle.msrp_export.specs.Signals.{job_after, released_state, row_in, task_status, work};
-ghost use Rattle.msrp_export.specs.Summaries.{IsPast, Summarizes};
+ghost use Rattle.msrp_export.specs.Summaries.{Summarizes};
 ghost use Rattle.msrp_export.specs.declared.tasks.TaskState.TheVariants.{Unreleased};
 
 use crate::summary::{Summary, waits};
@@ -40,27 +39,16 @@ pub(crate) struct TaskStatus {
     pub(crate) work: u32,
 }
 
-// Whether a task has a job of this number.
-fn has_release(times: Times, k: u32) -> bool
-    ensures has { result ≡ true → HasRelease times k }
-    ensures lacks { result ≡ false → IsPast times k }
-{
-    match times {
-        Times::Every { .. } => true,
-        Times::Listed { count } => k < count,
-    }
-}
-
 // The tick in which a job is released; the plan's ticks where there is no such job.
 fn release_of(plan: &Plan, job: JobId) -> u64
     requires { job.task.0 < length plan.now.tasks }
     ensures value { result ≡ release plan.now job }
     ensures bound { result ≤ longest_time * 2 ^ 32 }
 {
-    if has_release(plan.times(job.task), job.k) {
-        plan.release(job)
-    } else {
-        u64::from(plan.ticks())
+    match plan.times(job.task) {
+        Times::Listed { count } if count <= job.k => u64::from(plan.ticks()),
+        Times::Listed { .. } => plan.release(job),
+        Times::Every { .. } => plan.release(job),
     }
 }
 
@@ -83,11 +71,7 @@ fn row_in(tick: u32, task: TaskId, last_row: Option<Row>) -> Option<Row>
 {
     let row = last_row?;
     let job = row.job?;
-    if row.tick == tick && job.task == task {
-        Some(row)
-    } else {
-        None
-    }
+    (row.tick == tick && job.task == task).then_some(row)
 }
 
 // The state of a job, by its row in the tick.
@@ -120,13 +104,9 @@ pub(crate) fn task_status(
     let release = release_of(plan, job);
     let counts = now.counts_of(task);
     let row = row_in(tick, task, now.last_row(plan.core_of(task)));
-    let state = state_of(
-        release <= u64::from(tick),
-        counts.given_up < counts.acquired,
-        row,
-    );
+    let released = release <= u64::from(tick);
     TaskStatus {
-        state,
+        state: state_of(released, counts.given_up < counts.acquired, row),
         job,
         late: release + u64::from(plan.deadline(task)) <= u64::from(tick),
         row,

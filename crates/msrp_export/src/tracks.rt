@@ -33,18 +33,11 @@ pub(crate) fn track_at(plan: &Plan, place: u32) -> Option<Track>
     ensures plan { IsPlan plan.now }
     ensures track { IfSome result (IsTrack plan.now) }
 {
-    let (cores, tasks) = (plan.cores(), plan.tasks());
-    if place < cores {
+    let Some(task) = place.checked_sub(plan.cores()) else {
         return Some(Track::Core(CoreId(place)));
-    }
-    let place = place - cores;
-    if place < tasks {
-        return Some(Track::Task(TaskId(place)));
-    }
-    let place = place - tasks;
-    if place < plan.resources() {
-        Some(Track::Resource(ResId(place)))
-    } else {
-        None
-    }
+    };
+    let Some(res) = task.checked_sub(plan.tasks()) else {
+        return Some(Track::Task(TaskId(task)));
+    };
+    (res < plan.resources()).then_some(Track::Resource(ResId(res)))
 }

@@ -1,23 +1,20 @@
 -- What the lanes of a picture show beside rows: critical sections, the ceilings of cores, and the queues of global resources.
-use Rattle.std.specs.Prelude.{◌∷◌, ◌&&◌, if◌then◌else◌, ◌+◌, ◌*◌, filter}
-use Rattle.msrp_plan.specs.Common.{ℕ, List, [], Bool, true, false, Option, Some, None, not, fold, drop, find, length, map, nat_eq, take, flat_map, range_with_len, resources, greatest, rows_on, fifo, same_res, same_choice}
+use Rattle.std.specs.Prelude.{◌∷◌, ◌++◌, ◌&&◌, if◌then◌else◌, ◌+◌, ◌*◌}
+use Rattle.msrp_plan.specs.Common.{ℕ, List, [], Bool, true, false, Option, Some, None, is_none, cons_option, drop, find, length, nat_lt, take, flat_map, range_with_len, ceiling, fault_in, fifo, is_of, same_res, same_choice}
 use Rattle.msrp_plan.specs.declared.rows.Kind.TheVariants.{Grant, Lock, Release, Take, Unlock}
-use Rattle.msrp_levels.specs.Users.{ceiling_at}
 use Rattle.msrp_picture.specs.Types.{Block, CoreId, JobId, Kind, PlanModel, ResId, Row, TaskId}
-use Rattle.msrp_picture.specs.Blocks.{lasting, merged}
+use Rattle.msrp_picture.specs.Blocks.{lasting}
 use Rattle.msrp_picture.specs.Rows.{ticks_begun}
 use Rattle.msrp_picture.specs.declared.shapes.Lane.TheVariants.{Ceiling as CeilingLane, Queue, Task}
 use Rattle.msrp_picture.specs.declared.shapes.Look.TheVariants.{Ceiling, First, Holds}
 
 -- ---- critical sections: from the row in which a job gets a resource to the one in which it gives it back
--- a job gets a resource
 abbrev pub gets : Kind → Bool
 gets Lock = true
 gets Take = true
 gets Grant = true
 gets _ = false
 
--- and gives it back
 abbrev pub gives_back : Kind → Bool
 gives_back Unlock = true
 gives_back Release = true
@@ -41,30 +38,19 @@ first_section t end (r ∷ rest) = if gets r.kind then lasting (Task t) r.tick (
 abbrev pub sections : TaskId → ℕ → List Row → List Block
 sections t end rows = flat_map (λ i. first_section t end (drop i rows)) (range_with_len 0 (length rows))
 
--- ---- the ceiling of a core, as its rows say it
--- the core has locked or requested the resource, and not given it back: its last row on it isn't one that does
-abbrev pub is_claimed : List Row → ℕ → Bool
-is_claimed log g = fold (λ _ r. not (gives_back r.kind)) false (rows_on g log)
+-- ---- the ceilings of cores
+-- the last of these rows with the current ceiling of its core after them, if none of them is refused
+abbrev pub ceiling_after : PlanModel → List Row → Row → Option (Row × ℕ)
+ceiling_after plan rows r = if is_none (fault_in plan rows) then Some (r, ceiling plan r.core.0 rows) else None
 
--- of each resource whether it is claimed
-abbrev pub claims : PlanModel → List Row → List Bool
-claims plan log = map (is_claimed log) (resources plan)
+-- each row behind others with that
+unfoldable pub ceilings : PlanModel → List Row → List Row → List (Row × ℕ)
+ceilings plan pre [] = []
+ceilings plan pre (r ∷ rows) = cons_option (ceiling_after plan (pre ++ r ∷ []) r) (ceilings plan (pre ++ r ∷ []) rows)
 
--- the greatest ceiling of the claimed resources
-abbrev pub claims_ceiling : PlanModel → ℕ → List Row → ℕ
-claims_ceiling plan c log = greatest (map (λ g. ceiling_at plan g c) (filter (is_claimed log) (resources plan)))
-
--- the tick of a ceiling above 0
-abbrev pub raised : CoreId → ℕ → ℕ → List Block
-raised c t n = if nat_eq n 0 then [] else lasting (CeilingLane c) t (t + 1) (Ceiling n) None None ∷ []
-
--- the ceiling of a core after each of its rows, one in each tick
-abbrev pub ceiling_ticks : PlanModel → CoreId → List Row → List Block
-ceiling_ticks plan c log = flat_map (λ t. raised c t (claims_ceiling plan c.0 (take (t + 1) log))) (range_with_len 0 (length log))
-
--- a block for each longest stretch
-abbrev pub ceiling_blocks : PlanModel → CoreId → List Row → List Block
-ceiling_blocks plan c log = merged (ceiling_ticks plan c log)
+-- the tick of a row of the core, if its ceiling is above 0
+abbrev pub ceiling_tick : CoreId → (Row × ℕ) → Option Block
+ceiling_tick c after = if is_of c.0 after.0 && nat_lt 0 after.1 then Some (lasting (CeilingLane c) after.0.tick (after.0.tick + 1) (Ceiling after.1) None None) else None
 
 -- ---- the queue of a global resource after each tick
 -- in a tick who is first in the queue, and how many wait behind; nothing where the queue is empty
@@ -75,7 +61,3 @@ first_of g t (j ∷ waiting) = lasting (Queue g) t (t + 1) (First (length waitin
 -- after each tick
 abbrev pub queue_ticks : PlanModel → List Row → ResId → List Block
 queue_ticks plan rows g = flat_map (λ t. first_of g t (fifo g.0 (take ((t + 1) * plan.cores) rows))) (range_with_len 0 (ticks_begun plan rows))
-
--- a block for each longest stretch
-abbrev pub queue_blocks : PlanModel → List Row → ResId → List Block
-queue_blocks plan rows g = merged (queue_ticks plan rows g)

@@ -1,9 +1,8 @@
--- What a picture promises, in the words of schedules.
-use Rattle.msrp_plan.specs.Common.{ℕ, List, Bool, map, flat_map, range_with_len, ceiling, log_of, IsRunStart, IsPlan}
+-- What a picture promises of rows.
+use Rattle.msrp_plan.specs.Common.{List, Bool, map, flat_map, range_with_len}
 use Rattle.std.specs.Prelude.{◌≡◌, ◌+◌, ◌-◌, filter_map}
-use Rattle.msrp_picture.specs.Types.{Lane, PlanModel, Row, Block}
+use Rattle.msrp_picture.specs.Types.{Lane, Row, Block}
 use Rattle.msrp_picture.specs.Blocks.{merged, tick_of}
-use Rattle.msrp_picture.specs.Lanes.{claims_ceiling}
 
 -- a block, taken apart into its ticks
 abbrev pub ticks_of : Block → List Block
@@ -16,7 +15,3 @@ shown_rows lane is_legal rows = filter_map (tick_of lane is_legal) rows
 -- the blocks of a lane, taken apart, are the rows that it shows, in their order: each row is in exactly one block, which shows what the row is
 abbrev pub EachRowInOneBlock : Lane → Bool → List Row → Type 0
 EachRowInOneBlock lane is_legal rows = flat_map ticks_of (merged (shown_rows lane is_legal rows)) ≡ shown_rows lane is_legal rows
-
--- after rows with which a legal run starts, the ceiling that a core's rows say is the policy's
-abbrev pub ShowsTheCeiling : PlanModel → Type 0
-ShowsTheCeiling plan = (c : ℕ) (rows : List Row) → IsPlan plan → IsRunStart plan rows → claims_ceiling plan c (log_of c rows) ≡ ceiling plan c rows

@@ -13,6 +13,7 @@ pub use Rattle.msrp_picture.specs.declared.shapes.Block.{Block}
 pub use Rattle.msrp_picture.specs.declared.shapes.Event.{Event}
 pub use Rattle.msrp_picture.specs.declared.shapes.Lane.{Lane}
 pub use Rattle.msrp_picture.specs.declared.shapes.Look.{Look}
+pub use Rattle.msrp_picture.specs.declared.shapes.Moment.{Moment}
 pub use Rattle.msrp_picture.specs.declared.shapes.Shapes.{Shapes}
 pub use Rattle.msrp_picture.specs.declared.shapes.Violation.{Violation}
 pub use Rattle.msrp_picture.specs.declared.windows.Asked.{Asked}

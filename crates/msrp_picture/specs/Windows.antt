@@ -4,20 +4,13 @@ use Rattle.msrp_plan.specs.Common.{ℕ, Bool, nat_lt, nat_le, Option, Some, None
 use Rattle.msrp_picture.specs.Types.{Asked, PlanModel, Window, Block, Event}
 use Rattle.msrp_picture.specs.declared.windows.TheConstants.{SHORT_RUN}
 
--- the first tick, and the one up to which is drawn, where these are asked for
-abbrev pub first_asked : Asked → ℕ
-first_asked asked = unwrap_or asked.from 0
-
-abbrev pub end_asked : PlanModel → Asked → ℕ
-end_asked plan asked = unwrap_or asked.to (min plan.ticks (first_asked asked + SHORT_RUN))
-
--- there is such a tick, and all of them are the plan's
-abbrev pub is_window : PlanModel → ℕ → ℕ → Bool
-is_window plan from to = nat_lt from to && nat_le to plan.ticks
+-- these ticks, if there is one and all of them are the plan's
+abbrev pub within : PlanModel → ℕ → ℕ → Option Window
+within plan from to = if nat_lt from to && nat_le to plan.ticks then Some (record { from = from; to = to }) else None
 
 -- the ticks that are asked for, if the plan has such ticks
 abbrev pub window_of : PlanModel → Asked → Option Window
-window_of plan asked = if is_window plan (first_asked asked) (end_asked plan asked) then Some (record { from = first_asked asked; to = end_asked plan asked }) else None
+window_of plan asked = within plan (unwrap_or asked.from 0) (unwrap_or asked.to (min plan.ticks (unwrap_or asked.from 0 + SHORT_RUN)))
 
 -- a window has a tick
 abbrev pub IsWindow : Window → Type 0

@@ -1,82 +1,82 @@
-//! The ceiling of a core after each of its ticks, as the core's rows say it.
-ghost use Rattle.std.specs.Prelude.{◌≡◌, ◌<◌, ◌-◌, ◌^◌, ◌∷◌, ◌++◌};
-ghost use Rattle.msrp_plan.specs.Common.{[], List, length, IfOk, OnOk, log_of, PlanModel};
+//! The ceiling of each core, as an auditor of the rows knows it.
+ghost use Rattle.std.specs.Prelude.{◌≡◌, ◌∷◌, ◌++◌, filter_map};
+ghost use Rattle.msrp_plan.specs.Common.{[], List, IfOk, OnOk, cons_option};
 ghost use Rattle.msrp_plan.specs.declared.rows.Row.{Row as TraceRow};
-ghost use Rattle.msrp_picture.specs.Lanes.{claims, raised, ceiling_blocks, ceiling_ticks, claims_ceiling};
+ghost use Rattle.msrp_audit.specs.Audits.{HasFed};
+ghost use Rattle.msrp_picture.specs.Lanes.{ceiling_after, ceiling_tick, ceilings};
+ghost use Rattle.msrp_picture.specs.Blocks.{merged};
 
 use crate::Added;
 use crate::blocks::push_merged;
 use crate::gathering::gathered;
 use crate::scene::Scene;
-use crate::sections::gives_back;
 use crate::shapes::{Block, Lane, Look, lasting};
-use msrp_plan::{CoreId, Memory, ResId, Row};
+use msrp_audit::Auditor;
+use msrp_plan::{CoreId, Memory, Row};
+use std::alloc::Global;
 
-// For each resource that the core doesn't claim it.
-fn no_claims(scene: &Scene<'_>) -> Result<Vec<bool>, Memory>
-    ensures { IfOk result (λ claimed. claimed.items ≡ claims scene.now.plan.now []) }
+// Feeds a row, and adds it with the ceiling of its core after it, if none of the rows so far is refused.
+fn push_ceiling(all: &mut Vec<(Row, u32)>, auditor: &mut Auditor<'_>, row: &Row) -> Added
+    ensures plan { auditor.new.plan ≡ auditor.old.plan }
+    ensures fed { (rows : List TraceRow) → HasFed auditor.old rows → HasFed auditor.new (rows ++ row.now ∷ []) }
+    ensures all { (rows : List TraceRow) → HasFed auditor.old rows → OnOk result (all.new.items ≡ all.old.items ++ cons_option (ceiling_after auditor.old.plan (rows ++ row.now ∷ []) row.now) []) }
 {
-    gathered((0..scene.plan.resources()).map(|_| false), scene.alloc)
-}
-
-// Notes whether a row claims its resource or gives it back.
-fn note_claim(claimed: &mut Vec<bool>, row: &Row)
-    ensures size { length claimed.new.items ≡ length claimed.old.items }
-    ensures claims { (plan : PlanModel) (log : List TraceRow) → claimed.old.items ≡ claims plan log → claimed.new.items ≡ claims plan (log ++ row.now ∷ []) }
-{
-    if let Some(res) = row.res {
-        if (res.0 as usize) < claimed.len() {
-            claimed[res.0 as usize] = !gives_back(row.kind);
-        }
+    if auditor.feed(*row).is_err() {
+        return Ok(());
     }
-}
-
-// The greatest ceiling of the claimed resources.
-fn ceiling_of(scene: &Scene<'_>, core: CoreId, claimed: &[bool]) -> u32
-    requires core { core.0 < scene.now.plan.now.cores }
-    requires size { length claimed.now ≡ length scene.now.plan.now.resources }
-    ensures { (log : List TraceRow) → claimed.now ≡ claims scene.now.plan.now log → result ≡ claims_ceiling scene.now.plan.now core.0 log }
-{
-    let mut ceiling: u32 = 0;
-    for res in 0..scene.plan.resources() {
-        if claimed[res as usize] {
-            ceiling = ceiling.max(scene.levels.ceiling(ResId(res), core));
-        }
-    }
-    ceiling
-}
-
-fn push_raised(ticks: &mut Vec<Block>, core: CoreId, tick: u64, ceiling: u32) -> Added
-    requires { tick < 2 ^ 64 - 1 }
-    ensures { OnOk result (ticks.new.items ≡ ticks.old.items ++ raised core tick ceiling) }
-{
-    if ceiling > 0 {
-        let (lane, look) = (Lane::Ceiling(core), Look::Ceiling(ceiling));
-        ticks.push(lasting(lane, tick, tick + 1, look, None, None))?;
-    }
+    let Some(state) = auditor.state(row.core) else {
+        return Ok(());
+    };
+    all.push((*row, state.ceiling))?;
     Ok(())
 }
 
-fn ticks_of(scene: &Scene<'_>, core: CoreId, log: &[Row]) -> Result<Vec<Block>, Memory>
-    requires { core.0 < scene.now.plan.now.cores }
-    ensures { IfOk result (λ ticks. ticks.items ≡ ceiling_ticks scene.now.plan.now core log.now) }
+/// The rows, each with the ceiling of its core after it.
+pub(crate) fn ceilings_of(scene: &Scene<'_>) -> Result<Vec<(Row, u32)>, Memory>
+    ensures { IfOk result (λ all. all.items ≡ ceilings scene.now.plan.now [] scene.now.rows.now) }
 {
-    let mut claimed = no_claims(scene)?;
-    let mut ticks = Vec::new(scene.alloc);
-    for (tick, row) in log.iter().enumerate() {
-        note_claim(&mut claimed, row);
-        let ceiling = ceiling_of(scene, core, &claimed);
-        push_raised(&mut ticks, core, tick as u64, ceiling)?;
+    let mut auditor = Auditor::with_room(scene.alloc, scene.plan, scene.levels)?;
+    let mut all = Vec::new(scene.alloc);
+    for row in scene.rows {
+        push_ceiling(&mut all, &mut auditor, row)?;
     }
-    Ok(ticks)
+    Ok(all)
+}
+
+fn raised(core: CoreId, row: &Row, ceiling: u32) -> Option<Block>
+    ensures { result ≡ ceiling_tick core (row.now, ceiling) }
+{
+    if row.core != core || ceiling == 0 {
+        return None;
+    }
+    let (lane, look, tick) = (Lane::Ceiling(core), Look::Ceiling(ceiling), row.tick as u64);
+    Some(lasting(lane, tick, tick + 1, look, None, None))
+}
+
+fn ceiling_tick(core: CoreId, after: &(Row, u32)) -> Option<Block>
+    ensures { result ≡ ceiling_tick core after.now }
+{
+    raised(core, &after.0, after.1)
+}
+
+fn ticks_of(alloc: Global, core: CoreId, ceilings: &[(Row, u32)]) -> Result<Vec<Block>, Memory>
+    ensures { IfOk result (λ ticks. ticks.items ≡ filter_map (ceiling_tick core) ceilings.now) }
+{
+    let ticks = ceilings
+        .iter()
+        .filter_map(|after| ceiling_tick(core, after));
+    gathered(ticks, alloc)
 }
 
 /// Adds the blocks of a core's ceilings.
-pub(crate) fn push_ceilings(blocks: &mut Vec<Block>, scene: &Scene<'_>, core: CoreId) -> Added
-    requires { core.0 < scene.now.plan.now.cores }
-    ensures { OnOk result (blocks.new.items ≡ blocks.old.items ++ ceiling_blocks scene.now.plan.now core (log_of core.0 scene.now.rows.now)) }
+pub(crate) fn push_ceilings(
+    blocks: &mut Vec<Block>,
+    scene: &Scene<'_>,
+    ceilings: &[(Row, u32)],
+    core: CoreId,
+) -> Added
+    ensures { OnOk result (blocks.new.items ≡ blocks.old.items ++ merged (filter_map (ceiling_tick core) ceilings.now)) }
 {
-    let log = scene.log_of(core)?;
-    let ticks = ticks_of(scene, core, &log)?;
+    let ticks = ticks_of(scene.alloc, core, ceilings)?;
     push_merged(blocks, &ticks)
 }

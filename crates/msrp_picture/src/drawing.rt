@@ -1,62 +1,45 @@
 //! What there is to see in a picture, and the picture.
 ghost use Rattle.std.specs.Prelude.{◌≡◌, ◌++◌, filter};
-ghost use Rattle.msrp_plan.specs.Common.{IfOk, OnOk, length, map, flat_map, range_with_len};
-ghost use Rattle.msrp_picture.specs.Lives.{late_block, life_block};
-ghost use Rattle.msrp_picture.specs.Shapes.{AreShapes, AreShapesOf, blocks, cores_blocks, events, lives_blocks, queues_blocks, task_blocks, tasks_blocks, violation};
+ghost use Rattle.msrp_plan.specs.Common.{IfOk, OnOk};
+ghost use Rattle.msrp_picture.specs.Shapes.{AreShapes, AreShapesOf, blocks, cores_blocks, events, lives_blocks, queues_blocks, tasks_blocks, violation};
 ghost use Rattle.msrp_picture.specs.Windows.{IsWindow, is_seen};
-ghost use Rattle.msrp_picture.specs.declared.lives.Life.{Life as JobLife};
 
 use crate::blocks::push_rows;
-use crate::ceilings::push_ceilings;
+use crate::ceilings::{ceilings_of, push_ceilings};
 use crate::elements::svg;
 use crate::gathering::gathered;
-use crate::lives::{
-    Life, completion_event, deadline_event, late_block, life_block, lives_of, release_event,
-};
+use crate::lives::{Life, lives_of};
 use crate::plain::text;
 use crate::queues::push_queue;
 use crate::scene::Scene;
 use crate::sections::push_sections;
-use crate::shapes::{Block, Event, Lane, Shapes, Violation};
+use crate::shapes::{Block, Event, Lane, Look, Moment, Shapes, Violation};
 use crate::windows::{Asked, Style, Window, shown_window};
 use crate::{Added, Verdict};
 use msrp_levels::Levels;
 use msrp_plan::{CoreId, Memory, Plan, ResId, Row, TaskId};
 use std::alloc::Global;
 
-// The lives of all jobs, and where they are late.
-fn lives_blocks(scene: &Scene<'_>, lives: &[Life]) -> Result<Vec<Block>, Memory>
-    ensures { IfOk result (λ all. all.items ≡ lives_blocks lives.now) }
-{
-    let late = lives.iter().map(late_block);
-    gathered(lives.iter().map(life_block).chain(late), scene.alloc)
-}
-
 // Who runs on each core, and its ceilings as long as the rows are legal.
 fn push_cores(blocks: &mut Vec<Block>, scene: &Scene<'_>) -> Added
     ensures { OnOk result (blocks.new.items ≡ blocks.old.items ++ cores_blocks scene.now.plan.now scene.now.rows.now scene.now.later.now) }
 {
+    let ceilings = ceilings_of(scene)?;
     for core in 0..scene.plan.cores() {
         push_rows(blocks, scene, Lane::Core(CoreId(core)))?;
-        push_ceilings(blocks, scene, CoreId(core))?;
+        push_ceilings(blocks, scene, &ceilings, CoreId(core))?;
     }
     Ok(())
 }
 
-// What the jobs of a task do, and their critical sections as long as the rows are legal.
-fn push_task(blocks: &mut Vec<Block>, scene: &Scene<'_>, task: TaskId) -> Added
-    ensures { OnOk result (blocks.new.items ≡ blocks.old.items ++ task_blocks scene.now.plan.now scene.now.rows.now scene.now.later.now task) }
-{
-    let own = scene.rows_of(task)?;
-    push_rows(blocks, scene, Lane::Task(task))?;
-    push_sections(blocks, task, scene.ticks_begun(), &own)
-}
-
+// What the jobs of each task do, and their critical sections as long as the rows are legal.
 fn push_tasks(blocks: &mut Vec<Block>, scene: &Scene<'_>) -> Added
     ensures { OnOk result (blocks.new.items ≡ blocks.old.items ++ tasks_blocks scene.now.plan.now scene.now.rows.now scene.now.later.now) }
 {
     for task in 0..scene.plan.tasks() {
-        push_task(blocks, scene, TaskId(task))?;
+        let own = scene.rows_of(TaskId(task))?;
+        push_rows(blocks, scene, Lane::Task(TaskId(task)))?;
+        push_sections(blocks, TaskId(task), scene.ticks_begun(), &own)?;
     }
     Ok(())
 }
@@ -70,6 +53,16 @@ fn push_queues(blocks: &mut Vec<Block>, scene: &Scene<'_>) -> Added
         }
     }
     Ok(())
+}
+
+fn lives_blocks(scene: &Scene<'_>, lives: &[Life]) -> Result<Vec<Block>, Memory>
+    ensures { IfOk result (λ all. all.items ≡ lives_blocks lives.now) }
+{
+    let all = lives.iter();
+    let all = all.map(|life| life.block(Look::Life(life.is_finished), life.release));
+    let late = lives.iter();
+    let late = late.map(|life| life.block(Look::Late, life.deadline));
+    gathered(all.chain(late), scene.alloc)
 }
 
 // All blocks of the trace.
@@ -92,16 +85,19 @@ fn seen(scene: &Scene<'_>, blocks: &[Block]) -> Result<Vec<Block>, Memory>
     gathered(drawn.filter(|block| window.has_block(block)), scene.alloc)
 }
 
-// The events that are drawn.
 fn events_of(scene: &Scene<'_>, lives: &[Life]) -> Result<Vec<Event>, Memory>
     ensures { IfOk result (λ all. all.items ≡ events scene.now.window lives.now) }
 {
     let window = scene.window;
-    let due = lives
+    let releases = lives
         .iter()
-        .map(release_event)
-        .chain(lives.iter().map(deadline_event));
-    let all = due.chain(lives.iter().filter_map(completion_event));
+        .map(|life| life.event(Moment::Release, life.release));
+    let deadlines = lives
+        .iter()
+        .map(|life| life.event(Moment::Deadline, life.deadline));
+    let finished = lives.iter().filter(|life| life.is_finished);
+    let completions = finished.map(|life| life.event(Moment::Completion, life.end));
+    let all = releases.chain(deadlines).chain(completions);
     gathered(all.filter(|event| window.has_event(event)), scene.alloc)
 }
 

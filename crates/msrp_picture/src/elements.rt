@@ -1,6 +1,4 @@
 //! A picture in SVG (W3C, 2011): an element for each shape.
-ghost use Rattle.std.specs.Prelude.{◌<◌};
-ghost use Rattle.msrp_plan.specs.Common.{length};
 
 use crate::Added;
 use crate::layout::{AXIS, LEFT, Layout, Room};
@@ -12,10 +10,9 @@ use crate::words::{
 use msrp_plan::{Kind, Memory, Op, Plan, TaskId};
 use std::fmt::Display;
 
-/// The least width of a picture: that of its caption and legend.
+// The least width of a picture, and that from which on the names of lanes are on both sides.
 const LEAST_WIDTH: u64 = 840;
 
-// A picture of more width has the names of lanes on both sides.
 const WIDE: u64 = 1500;
 
 // The room of a character of a label, with some to spare, and the least height of a labelled block.
@@ -62,13 +59,9 @@ fn class_of(block: &Block) -> &'static str {
     }
 }
 
-// The words in a block.
 fn label_of(scene: &Scene<'_>, block: &Block) -> Result<String, Memory> {
     let mut label = String::new(scene.alloc);
-    let name = match block.job {
-        Some(job) => task_name(scene.plan, job.task),
-        None => "",
-    };
+    let name = block.job.map_or("", |job| task_name(scene.plan, job.task));
     match (block.look, block.job, block.res) {
         (Look::Does(_), Some(job), _) => write!(label, "J{}", job.k)?,
         (Look::Holds, _, Some(res)) => label.push_str(res_name(scene.plan, res))?,
@@ -80,28 +73,31 @@ fn label_of(scene: &Scene<'_>, block: &Block) -> Result<String, Memory> {
     Ok(label)
 }
 
-// The line on which words are in a room.
+// The width of words, with some to spare.
+fn width_of(words: &str) -> u64 {
+    (words.len() as u64).saturating_mul(CHARACTER)
+}
+
 fn baseline(room: Room) -> u64 {
     room.top.saturating_add(room.height.min(18) / 2 + 4)
 }
 
 // How many critical sections of a task are within one another at most, but 2 at least.
-fn depth_of(plan: &Plan, task: TaskId) -> u64
-    requires { task.0 < length plan.now.tasks }
-{
+fn depth_of(plan: &Plan, task: TaskId) -> u64 {
     let (mut open, mut most) = (0u64, 2u64);
-    for place in 0..plan.units(task) {
-        open = match plan.unit(task, place) {
-            Op::Lock(_) => open.saturating_add(1),
-            Op::Unlock(_) => open.saturating_sub(1),
-            Op::Run => open,
-        };
-        most = most.max(open);
+    if task.0 < plan.tasks() {
+        for place in 0..plan.units(task) {
+            open = match plan.unit(task, place) {
+                Op::Lock(_) => open.saturating_add(1),
+                Op::Unlock(_) => open.saturating_sub(1),
+                Op::Run => open,
+            };
+            most = most.max(open);
+        }
     }
     most
 }
 
-// The names of tasks that aren't drawn.
 fn left_out(scene: &Scene<'_>, layout: &Layout) -> Result<String, Memory> {
     let mut names = String::new(scene.alloc);
     for task in 0..scene.plan.tasks() {
@@ -112,7 +108,6 @@ fn left_out(scene: &Scene<'_>, layout: &Layout) -> Result<String, Memory> {
     Ok(names)
 }
 
-// A picture that is being written.
 #[derive(Drop)]
 struct Canvas<'a> {
     scene: &'a Scene<'a>,
@@ -123,7 +118,7 @@ struct Canvas<'a> {
     ends: Vec<u64>,
 }
 
-impl<'a> Canvas<'a> {
+impl Canvas<'_> {
     fn note<T: Display>(&mut self, class: &str, x: u64, y: u64, words: &T) -> Added {
         write!(self.text, "<text class=\"{class}\" x=\"{x}\" y=\"{y}\">")?;
         writeln!(self.text, "{words}</text>")?;
@@ -144,17 +139,13 @@ impl<'a> Canvas<'a> {
             self.ends.clear();
         }
         self.ends.retain(|end| *end > section.first);
-        let (depth, mut most) = (self.ends.len() as u64, 2);
+        let height = 32 / depth_of(self.scene.plan, task).max(1);
+        let depth = self.ends.len() as u64;
         self.ends.push(section.end)?;
-        if task.0 < self.scene.plan.tasks() {
-            most = depth_of(self.scene.plan, task);
-        }
-        let height = 32 / most.max(1);
         let top = depth.saturating_mul(height).saturating_add(18);
         Ok(Room { top, height })
     }
 
-    // The place of a block in its lane, if that is drawn.
     fn room(&mut self, block: &Block) -> Result<Option<Room>, Memory> {
         let Some(room) = self.layout.room(block.lane) else {
             return Ok(None);
@@ -169,20 +160,17 @@ impl<'a> Canvas<'a> {
         Ok(Some(Room { top, height }))
     }
 
-    // Adds a block, with its label where that has room.
     fn block(&mut self, block: &Block, room: Room) -> Added {
         let x = self.layout.left_of(block.first);
         let width = self.layout.left_of(block.end).saturating_sub(x);
         let (class, label) = (class_of(block), label_of(self.scene, block)?);
         let after = if block.is_legal { "" } else { " after" };
         write!(self.text, "<g class=\"{class}{after}\"><title>")?;
-        say_block(&mut self.text, self.scene.plan, block)?;
+        say_block(&mut self.text, self.scene, block)?;
         self.text.push_str("</title>")?;
         self.rect(x, width, room)?;
-        let length = (label.len() as u64)
-            .saturating_mul(CHARACTER)
-            .saturating_add(3);
-        if !label.is_empty() && length <= width && LABEL_HEIGHT <= room.height {
+        let has_room = width_of(&label).saturating_add(3) <= width && LABEL_HEIGHT <= room.height;
+        if !label.is_empty() && has_room {
             let (x, y) = (x.saturating_add(3), baseline(room));
             write!(self.text, "<text x=\"{x}\" y=\"{y}\">{label}</text>")?;
         }
@@ -201,39 +189,34 @@ impl<'a> Canvas<'a> {
 
     fn events(&mut self, shapes: &Shapes) -> Added {
         for event in &shapes.events {
-            self.event(event)?;
+            if let Some(room) = self.layout.room(Lane::Task(event.job.task)) {
+                self.event(event, room)?;
+            }
         }
         Ok(())
     }
 
-    fn event(&mut self, event: &Event) -> Added {
+    fn event(&mut self, event: &Event, room: Room) -> Added {
         let (symbol, _) = moment_words(event.moment);
-        let x = self.layout.left_of(event.tick);
-        if let Some(room) = self.layout.room(Lane::Task(event.job.task)) {
-            let y = room.top;
-            write!(
-                self.text,
-                "<use href=\"#{symbol}\" x=\"{x}\" y=\"{y}\"><title>"
-            )?;
-            say_event(&mut self.text, self.scene.plan, event)?;
-            self.text.push_str("</title></use>\n")?;
-        }
+        let (x, y) = (self.layout.left_of(event.tick), room.top);
+        write!(self.text, "<use href=\"#{symbol}\" x=\"{x}\" y=\"{y}\">")?;
+        self.text.push_str("<title>")?;
+        say_event(&mut self.text, self.scene, event)?;
+        self.text.push_str("</title></use>\n")?;
         Ok(())
     }
 
     // A frame round the row that violates a rule, and the rule's name above it.
     fn violation(&mut self, violation: &Violation) -> Added {
-        let (window, row) = (self.scene.window, violation.row);
-        let lane = row
-            .job
-            .map_or(Lane::Core(row.core), |job| Lane::Task(job.task));
+        let row = violation.row;
+        let of_core = Lane::Core(row.core);
+        let lane = row.job.map_or(of_core, |job| Lane::Task(job.task));
         if let Some(room) = self.layout.room(lane)
-            && window.from <= row.tick
-            && row.tick < window.to
+            && self.scene.window.has_tick(row.tick)
         {
             let x = self.layout.left_of(row.tick as u64);
             self.text.push_str("<g class=\"breaks\"><title>")?;
-            say_violation(&mut self.text, self.scene.plan, violation)?;
+            say_violation(&mut self.text, self.scene, violation)?;
             self.text.push_str("</title>")?;
             self.rect(x, self.layout.tick_width, room)?;
             self.text.push_str("</g>\n")?;
@@ -305,8 +288,7 @@ impl<'a> Canvas<'a> {
     // The size of the picture, its style and legend.
     fn head(&mut self, width: u64) -> Added {
         let height = self.layout.bottom.saturating_add(10);
-        self.text
-            .push_str("<svg xmlns=\"http://www.w3.org/2000/svg\" ")?;
+        write!(self.text, "<svg xmlns=\"http://www.w3.org/2000/svg\" ")?;
         write!(self.text, "width=\"{width}\" height=\"{height}\" ")?;
         writeln!(self.text, "viewBox=\"0 0 {width} {height}\">")?;
         self.text.push_str(STYLE)?;
@@ -316,17 +298,15 @@ impl<'a> Canvas<'a> {
 
     // The verdict, what violates a rule, and which ticks are drawn.
     fn caption(&mut self, shapes: &Shapes) -> Added {
-        let (mut verdict, mut ticks) = (
-            String::new(self.scene.alloc),
-            String::new(self.scene.alloc),
-        );
-        say_verdict(&mut verdict, self.scene.found)?;
+        let (scene, alloc) = (self.scene, self.scene.alloc);
+        let (mut verdict, mut ticks) = (String::new(alloc), String::new(alloc));
+        say_verdict(&mut verdict, scene.found)?;
         if let Some(violation) = &shapes.violation {
             verdict.push_str(" (")?;
-            say_violation(&mut verdict, self.scene.plan, violation)?;
+            say_violation(&mut verdict, scene, violation)?;
             verdict.push_str(")")?;
         }
-        say_ticks(&mut ticks, self.scene)?;
+        say_ticks(&mut ticks, scene)?;
         self.note("caption", 20, 24, &verdict)?;
         self.note("caption", 20, 42, &ticks)
     }
@@ -334,21 +314,19 @@ impl<'a> Canvas<'a> {
 
 /// A picture in SVG.
 pub(crate) fn svg(scene: &Scene<'_>, shapes: &Shapes) -> Result<String, Memory> {
-    let layout = Layout::of(scene, shapes)?;
-    let (right, without) = (layout.right(), left_out(scene, &layout)?);
-    let margin = if right > WIDE { LEFT } else { 20 };
-    let names = (without.len() as u64)
-        .saturating_mul(CHARACTER)
-        .saturating_add(240);
-    let (text, ends) = (String::new(scene.alloc), Vec::new(scene.alloc));
+    let layout = &Layout::of(scene, shapes)?;
+    let (right, without) = (layout.right(), left_out(scene, layout)?);
+    let width = right.saturating_add(if right > WIDE { LEFT } else { 20 });
+    let names = width_of(&without).saturating_add(240);
+    let (text, last, ends) = (String::new(scene.alloc), None, Vec::new(scene.alloc));
     let mut canvas = Canvas {
         scene,
-        layout: &layout,
+        layout,
         text,
-        last: None,
+        last,
         ends,
     };
-    canvas.head(right.saturating_add(margin).max(LEAST_WIDTH).max(names))?;
+    canvas.head(width.max(LEAST_WIDTH).max(names))?;
     canvas.caption(shapes)?;
     canvas.lanes()?;
     canvas.blocks(shapes)?;

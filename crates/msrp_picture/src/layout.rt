@@ -35,7 +35,6 @@ pub(crate) struct Layout {
     pub(crate) bottom: u64,
 }
 
-// Whether there is something to see in a lane.
 fn is_shown(shapes: &Shapes, lane: Lane) -> bool {
     let is_here = |event: &Event| lane == Lane::Task(event.job.task);
     shapes.blocks.iter().any(|block| block.lane == lane) || shapes.events.iter().any(is_here)
@@ -56,26 +55,21 @@ impl Layout {
             bottom: TOP,
         };
         for core in 0..scene.plan.cores() {
-            layout.skip(AXIS);
+            layout.bottom = layout.bottom.saturating_add(AXIS);
             layout.add(Lane::Core(CoreId(core)), 14, 0)?;
             layout.add(Lane::Ceiling(CoreId(core)), 12, 18)?;
             layout.add_tasks(scene.plan, shapes, CoreId(core))?;
         }
-        layout.skip(10);
+        layout.bottom = layout.bottom.saturating_add(10);
         layout.add_queues(scene.plan, shapes)?;
         Ok(layout)
-    }
-
-    fn skip(&mut self, height: u64) {
-        self.bottom = self.bottom.saturating_add(height);
     }
 
     // Adds a lane of this height, and room below it.
     fn add(&mut self, lane: Lane, height: u64, below: u64) -> Added {
         let top = self.bottom;
         self.lanes.push((lane, Room { top, height }))?;
-        self.skip(height);
-        self.skip(below);
+        self.bottom = top.saturating_add(height).saturating_add(below);
         Ok(())
     }
 

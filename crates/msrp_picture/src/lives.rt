@@ -1,8 +1,8 @@
 //! The life of a job: its release, its absolute deadline, and its completion.
 ghost use Rattle.std.specs.Prelude.{◌≡◌, ◌<◌, ◌++◌};
-ghost use Rattle.msrp_plan.specs.Common.{cond, length, map, IfOk, IsSome, OnOk, done, is_row_of, release_tick};
-ghost use Rattle.msrp_picture.specs.Lives.{after_last, completion_event, deadline_event, late_block, life_block, life_of, lives, release_event, task_lives};
-ghost use Rattle.msrp_picture.specs.Rows.{task_rows, ticks_begun};
+ghost use Rattle.msrp_plan.specs.Common.{length, IfOk, IsSome, OnOk, done, is_row_of, release_tick};
+ghost use Rattle.msrp_picture.specs.Lives.{after_last, event_of, life_block, life_of, lives, task_lives};
+ghost use Rattle.msrp_picture.specs.Rows.{task_rows};
 
 use crate::Added;
 use crate::scene::Scene;
@@ -42,16 +42,6 @@ fn after_last(job: JobId, rows: &[Row]) -> u64
     own.fold(0, |_, row| row.tick as u64 + 1)
 }
 
-fn end_of(scene: &Scene<'_>, own: &[Row], job: JobId, is_finished: bool) -> u64
-    ensures { result ≡ cond is_finished (after_last job own.now) (ticks_begun scene.now.plan.now scene.now.rows.now) }
-{
-    if is_finished {
-        after_last(job, own)
-    } else {
-        scene.ticks_begun()
-    }
-}
-
 // The life of a job, where these are the legal rows of its task.
 fn life_of(scene: &Scene<'_>, own: &[Row], job: JobId) -> Life
     requires task { job.task.0 < length scene.now.plan.now.tasks }
@@ -62,18 +52,19 @@ fn life_of(scene: &Scene<'_>, own: &[Row], job: JobId) -> Life
     let plan = scene.plan;
     let release = plan.release(job);
     let is_finished = done(job, own) == plan.units(job.task) as usize;
-    let deadline = release + plan.deadline(job.task) as u64;
-    let end = end_of(scene, own, job, is_finished);
     Life {
         job,
         release,
-        deadline,
-        end,
+        deadline: release + plan.deadline(job.task) as u64,
+        end: if is_finished {
+            after_last(job, own)
+        } else {
+            scene.ticks_begun()
+        },
         is_finished,
     }
 }
 
-// Adds the lives of a task's jobs.
 fn push_lives(lives: &mut Vec<Life>, scene: &Scene<'_>, task: TaskId) -> Added
     requires { task.0 < length scene.now.plan.now.tasks }
     ensures { OnOk result (lives.new.items ≡ lives.old.items ++ task_lives scene.now.plan.now scene.now.rows.now task.0) }
@@ -96,56 +87,19 @@ pub(crate) fn lives_of(scene: &Scene<'_>) -> Result<Vec<Life>, Memory>
     Ok(lives)
 }
 
-/// From the release of a job to its completion.
-pub(crate) fn life_block(life: &Life) -> Block
-    ensures { result ≡ life_block life.now }
-{
-    let (lane, look) = (Lane::Task(life.job.task), Look::Life(life.is_finished));
-    lasting(lane, life.release, life.end, look, Some(life.job), None)
-}
-
-/// From the absolute deadline of a job to its completion: there are no such ticks of a job that is in time.
-pub(crate) fn late_block(life: &Life) -> Block
-    ensures { result ≡ late_block life.now }
-{
-    let lane = Lane::Task(life.job.task);
-    lasting(
-        lane,
-        life.deadline,
-        life.end,
-        Look::Late,
-        Some(life.job),
-        None,
-    )
-}
-
-pub(crate) fn release_event(life: &Life) -> Event
-    ensures { result ≡ release_event life.now }
-{
-    Event {
-        moment: Moment::Release,
-        tick: life.release,
-        job: life.job,
+impl Life {
+    /// From a tick to the end of the life: none, where the end comes first.
+    pub(crate) fn block(&self, look: Look, first: u64) -> Block
+        ensures { result ≡ life_block look first self.now }
+    {
+        let (lane, job) = (Lane::Task(self.job.task), Some(self.job));
+        lasting(lane, first, self.end, look, job, None)
     }
-}
 
-pub(crate) fn deadline_event(life: &Life) -> Event
-    ensures { result ≡ deadline_event life.now }
-{
-    Event {
-        moment: Moment::Deadline,
-        tick: life.deadline,
-        job: life.job,
+    pub(crate) fn event(&self, moment: Moment, tick: u64) -> Event
+        ensures { result ≡ event_of moment tick self.now }
+    {
+        let job = self.job;
+        Event { moment, tick, job }
     }
-}
-
-/// The completion of a job that is finished.
-pub(crate) fn completion_event(life: &Life) -> Option<Event>
-    ensures { result ≡ completion_event life.now }
-{
-    life.is_finished.then_some(Event {
-        moment: Moment::Completion,
-        tick: life.end,
-        job: life.job,
-    })
 }

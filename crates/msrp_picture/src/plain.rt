@@ -23,28 +23,21 @@ const LEGEND: &str =
     . idle  | next job  ! violates a rule  ^ release  v absolute deadline  X both\n\
     of a resource: the first in its queue after the tick, how many wait behind it\n";
 
-// What a line shows.
 #[derive(Clone, Copy)]
 enum Shown {
     Jobs(CoreId),
     Deeds(CoreId),
-    Marks(CoreId),
+    Mark(CoreId),
     First(ResId),
     Waiting(ResId),
 }
 
-#[derive(Drop)]
-struct Line {
-    label: String,
-    cells: Vec<u8>,
-}
-
-// The lines of a picture, each with a cell for each tick of the window.
+// The lines of a picture: a label, and a cell for each tick of the window.
 #[derive(Drop)]
 struct Lines<'a> {
     scene: &'a Scene<'a>,
     shapes: &'a Shapes,
-    lines: Vec<Line>,
+    lines: Vec<(String, Vec<u8>)>,
 }
 
 fn letter(task: TaskId) -> u8 {
@@ -64,7 +57,6 @@ fn sign(kind: Kind) -> u8 {
     }
 }
 
-// The sign of a cell in which something happens beside what is there.
 fn event_sign(moment: Moment, cell: u8) -> u8 {
     match (moment, cell) {
         (Moment::Completion, _) => cell,
@@ -84,7 +76,6 @@ fn paint(cells: &mut Vec<u8>, window: Window, first: u64, end: u64, sign: u8) {
     }
 }
 
-// Whether the plan has the task on this core.
 fn is_on(plan: &Plan, task: TaskId, core: CoreId) -> bool {
     task.0 < plan.tasks() && plan.core_of(task) == core
 }
@@ -98,7 +89,6 @@ fn is_next_job(before: Option<Block>, block: &Block) -> bool {
     }
 }
 
-// What a line shows of a block, if anything.
 fn sign_of(plan: &Plan, shown: Shown, block: &Block) -> Option<u8> {
     match (shown, block.lane, block.look) {
         _ if !block.is_legal => None,
@@ -119,22 +109,12 @@ fn fault_sign(shown: Shown, row: Row) -> Option<u8> {
     match shown {
         Shown::Jobs(core) if core == row.core => Some(row.job.map_or(b'.', |job| letter(job.task))),
         Shown::Deeds(core) if core == row.core => Some(sign(row.kind)),
-        Shown::Marks(core) if core == row.core => Some(b'!'),
+        Shown::Mark(core) if core == row.core => Some(b'!'),
         _ => None,
     }
 }
 
-// Whether the row that violates a rule is of this core, in a tick that is drawn.
-fn is_marked(violation: Option<Violation>, core: CoreId, window: Window) -> bool {
-    match violation {
-        Some(Violation { row, .. }) => {
-            row.core == core && window.from <= row.tick && row.tick < window.to
-        }
-        None => false,
-    }
-}
-
-impl<'a> Lines<'a> {
+impl Lines<'_> {
     // Cells with a dot for each tick before this one.
     fn dots(&self, end: u64) -> Result<Vec<u8>, Memory> {
         let window = self.scene.window;
@@ -160,7 +140,7 @@ impl<'a> Lines<'a> {
 
     // Adds a line with dots for the ticks before this one.
     fn add<T: Display>(&mut self, label: &T, shown: Shown, end: u64) -> Added {
-        let (label, mut cells) = (format!(in self.scene.alloc; "{label}")?, self.dots(end)?);
+        let mut cells = self.dots(end)?;
         self.paint_blocks(&mut cells, shown);
         if let Some(Violation { row, .. }) = self.shapes.violation
             && let Some(sign) = fault_sign(shown, row)
@@ -168,13 +148,13 @@ impl<'a> Lines<'a> {
             let (window, tick) = (self.scene.window, u64::from(row.tick));
             paint(&mut cells, window, tick, tick.saturating_add(1), sign);
         }
-        self.lines.push(Line { label, cells })?;
+        let label = format!(in self.scene.alloc; "{label}")?;
+        self.lines.push((label, cells))?;
         Ok(())
     }
 
-    // Adds the releases and absolute deadlines of a core's jobs.
     fn add_events(&mut self, core: CoreId) -> Added {
-        let (scene, window, alloc) = (self.scene, self.scene.window, self.scene.alloc);
+        let (scene, window) = (self.scene, self.scene.window);
         let mut cells = self.dots(window.to as u64)?;
         for event in &self.shapes.events {
             let place = event.tick.saturating_sub(window.from as u64);
@@ -184,8 +164,8 @@ impl<'a> Lines<'a> {
                 *cell = event_sign(event.moment, *cell);
             }
         }
-        let label = format!(in alloc; "  events")?;
-        self.lines.push(Line { label, cells })?;
+        let label = format!(in scene.alloc; "  events")?;
+        self.lines.push((label, cells))?;
         Ok(())
     }
 
@@ -195,17 +175,13 @@ impl<'a> Lines<'a> {
         let ticks = of_core.count() as u64;
         self.add(&format_args!("core {}", core.0), Shown::Jobs(core), ticks)?;
         self.add(&"", Shown::Deeds(core), ticks)?;
-        if is_marked(self.shapes.violation, core, self.scene.window) {
-            self.add(&"", Shown::Marks(core), 0)?;
+        if let Some(Violation { row, .. }) = self.shapes.violation
+            && row.core == core
+            && self.scene.window.has_tick(row.tick)
+        {
+            self.add(&"", Shown::Mark(core), 0)?;
         }
         self.add_events(core)
-    }
-
-    fn add_cores(&mut self) -> Added {
-        for core in 0..self.scene.plan.cores() {
-            self.add_core(CoreId(core))?;
-        }
-        Ok(())
     }
 
     // Adds who is first in the queue of each global resource, and how many wait.
@@ -223,13 +199,16 @@ impl<'a> Lines<'a> {
 
     // Writes the axis of a part, and what it shows of each line.
     fn write_part(&self, text: &mut String, part: u32) -> Added {
-        let (alloc, cell) = (self.scene.alloc, part.saturating_mul(LINE_TICKS));
-        let first = self.scene.window.from.saturating_add(cell);
-        let end = self.scene.window.to.min(first.saturating_add(LINE_TICKS));
-        let axis = axis(alloc, first, end)?;
-        write!(text, "\n{:<18}{axis}\n", "tick")?;
-        for line in &self.lines {
-            write_line(text, alloc, line, cell as usize)?;
+        let (scene, cell) = (self.scene, part.saturating_mul(LINE_TICKS));
+        let first = scene.window.from.saturating_add(cell);
+        let end = scene.window.to.min(first.saturating_add(LINE_TICKS));
+        write!(text, "\n{:<18}{}\n", "tick", axis(scene.alloc, first, end)?)?;
+        for (label, cells) in &self.lines {
+            let cells = cells.chunks(LINE_TICKS as usize).nth(part as usize);
+            let cells = str::from_utf8(cells.unwrap_or(&[]))
+                .unwrap_or("")
+                .trim_end();
+            writeln!(text, "{label:<18}{cells}")?;
         }
         Ok(())
     }
@@ -249,17 +228,6 @@ fn axis(alloc: Global, from: u32, to: u32) -> Result<String, Memory> {
     Ok(axis)
 }
 
-// Writes the cells of a part that begins with this one.
-fn write_line(text: &mut String, alloc: Global, line: &Line, first: usize) -> Added {
-    let mut cells = String::new(alloc);
-    for cell in line.cells.iter().skip(first).take(LINE_TICKS as usize) {
-        cells.push(*cell as char)?;
-    }
-    let (label, cells) = (&line.label, cells.trim_end());
-    writeln!(text, "{label:<18}{cells}")?;
-    Ok(())
-}
-
 fn write_tasks(text: &mut String, plan: &Plan) -> Added {
     for task in 0..plan.tasks() {
         let (task, name) = (TaskId(task), plan.task_name(TaskId(task)));
@@ -269,17 +237,23 @@ fn write_tasks(text: &mut String, plan: &Plan) -> Added {
     Ok(())
 }
 
-/// A picture in plain text.
-pub(crate) fn text(scene: &Scene<'_>, shapes: &Shapes) -> Result<String, Memory> {
+fn lines_of<'a>(scene: &'a Scene<'a>, shapes: &'a Shapes) -> Result<Lines<'a>, Memory> {
     let lines = Vec::new(scene.alloc);
     let mut lines = Lines {
         scene,
         shapes,
         lines,
     };
-    lines.add_cores()?;
+    for core in 0..scene.plan.cores() {
+        lines.add_core(CoreId(core))?;
+    }
     lines.add_queues()?;
-    let mut text = String::new(scene.alloc);
+    Ok(lines)
+}
+
+/// A picture in plain text.
+pub(crate) fn text(scene: &Scene<'_>, shapes: &Shapes) -> Result<String, Memory> {
+    let (lines, mut text) = (lines_of(scene, shapes)?, String::new(scene.alloc));
     say_verdict(&mut text, scene.found)?;
     text.push_str("\n")?;
     say_ticks(&mut text, scene)?;

@@ -3,7 +3,8 @@ ghost use Rattle.std.specs.Prelude.{◌≡◌, ◌++◌, ◌<◌, ◌-◌, ◌^�
 ghost use Rattle.msrp_plan.specs.Common.{ℕ, List, IfOk, OnOk};
 ghost use Rattle.msrp_plan.specs.Requests.{HasTaken};
 ghost use Rattle.msrp_plan.specs.declared.rows.Row.{Row as TraceRow};
-ghost use Rattle.msrp_picture.specs.Lanes.{first_of, queue_blocks, queue_ticks};
+ghost use Rattle.msrp_picture.specs.Lanes.{first_of, queue_ticks};
+ghost use Rattle.msrp_picture.specs.Blocks.{merged};
 ghost use Rattle.msrp_picture.specs.Rows.{rows_in};
 
 use crate::Added;
@@ -58,7 +59,7 @@ fn ticks_of(scene: &Scene<'_>, res: ResId) -> Result<Vec<Block>, Memory>
 
 /// Adds the blocks of a resource's queue.
 pub(crate) fn push_queue(blocks: &mut Vec<Block>, scene: &Scene<'_>, res: ResId) -> Added
-    ensures { OnOk result (blocks.new.items ≡ blocks.old.items ++ queue_blocks scene.now.plan.now scene.now.rows.now res) }
+    ensures { OnOk result (blocks.new.items ≡ blocks.old.items ++ merged (queue_ticks scene.now.plan.now scene.now.rows.now res)) }
 {
     let ticks = ticks_of(scene, res)?;
     push_merged(blocks, &ticks)

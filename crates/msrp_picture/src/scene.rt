@@ -1,13 +1,13 @@
 //! What is drawn: a plan, the rows of a trace, and the verdict on them.
 ghost use Rattle.std.specs.Prelude.{◌≡◌};
-ghost use Rattle.msrp_plan.specs.Common.{IfOk, log_of};
+ghost use Rattle.msrp_plan.specs.Common.{IfOk};
 ghost use Rattle.msrp_picture.specs.Rows.{later_rows, legal_rows, task_rows, ticks_begun, is_job_of};
 
 use crate::Verdict;
 use crate::gathering::gathered;
 use crate::windows::Window;
 use msrp_levels::Levels;
-use msrp_plan::{CoreId, JobId, Memory, Plan, Row, TaskId};
+use msrp_plan::{JobId, Memory, Plan, Row, TaskId};
 use std::alloc::Global;
 
 /// A plan, the legal rows of a trace, and the rows from the first on that violates a rule.
@@ -62,14 +62,6 @@ impl<'a> Scene<'a> {
         self.rows.len().div_ceil(self.plan.cores() as usize) as u64
     }
 
-    /// The legal rows of a core, in order.
-    pub(crate) fn log_of(&self, core: CoreId) -> Result<Vec<Row>, Memory>
-        ensures { IfOk result (λ log. log.items ≡ log_of core.0 self.now.rows.now) }
-    {
-        let log = self.rows.iter().copied().filter(|row| row.core == core);
-        gathered(log, self.alloc)
-    }
-
     /// The legal rows of a task's jobs, in order.
     pub(crate) fn rows_of(&self, task: TaskId) -> Result<Vec<Row>, Memory>
         ensures { IfOk result (λ rows. rows.items ≡ task_rows task.0 self.now.rows.now) }
@@ -83,8 +75,5 @@ impl<'a> Scene<'a> {
 pub(crate) fn is_job_of(task: TaskId, job: Option<JobId>) -> bool
     ensures { result ≡ is_job_of task.0 job }
 {
-    match job {
-        Some(job) => job.task == task,
-        None => false,
-    }
+    matches!(job, Some(job) if job.task == task)
 }

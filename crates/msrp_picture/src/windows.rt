@@ -39,15 +39,10 @@ pub fn window_of(plan: &Plan, asked: Asked) -> Option<Window>
     ensures { result ≡ window_of plan.now asked }
 {
     let from = asked.from.unwrap_or(0);
-    let to = match asked.to {
-        Some(to) => to,
-        None => plan.ticks().min(from.saturating_add(SHORT_RUN)),
-    };
-    if from < to && to <= plan.ticks() {
-        Some(Window { from, to })
-    } else {
-        None
-    }
+    let to = asked
+        .to
+        .unwrap_or(plan.ticks().min(from.saturating_add(SHORT_RUN)));
+    (from < to && to <= plan.ticks()).then_some(Window { from, to })
 }
 
 /// The tick in which the row of this number is expected. Rows count from 1, and each tick has a row for each core.
@@ -57,9 +52,8 @@ pub(crate) fn expected_tick(plan: &Plan, row: u32) -> u32 {
 
 // At most SHORT_RUN ticks of the plan, half of them before this one.
 fn around(plan: &Plan, tick: u32) -> Window {
-    let from = tick
-        .saturating_sub(SHORT_RUN / 2)
-        .min(plan.ticks().saturating_sub(SHORT_RUN));
+    let last = plan.ticks().saturating_sub(SHORT_RUN);
+    let from = tick.saturating_sub(SHORT_RUN / 2).min(last);
     let to = plan.ticks().min(from.saturating_add(SHORT_RUN));
     Window { from, to }
 }
@@ -76,6 +70,11 @@ impl Window {
     /// How many ticks are drawn.
     pub(crate) fn ticks(self) -> u32 {
         self.to.saturating_sub(self.from)
+    }
+
+    /// Whether a tick is drawn.
+    pub(crate) fn has_tick(self, tick: u32) -> bool {
+        (self.from..self.to).contains(&tick)
     }
 
     /// Whether some of a block's ticks are drawn.

@@ -4,8 +4,7 @@ use crate::scene::Scene;
 use crate::shapes::{Block, Event, Look, Moment, Violation};
 use crate::windows::expected_tick;
 use crate::{Added, Verdict};
-use msrp_plan::{JobId, Kind, Plan, ResId, TaskId};
-use std::fmt;
+use msrp_plan::{JobId, Kind, Memory, Plan, ResId, TaskId};
 
 /// The name of a task; nothing where the plan has no such task.
 pub(crate) fn task_name(plan: &Plan, task: TaskId) -> &str {
@@ -25,30 +24,12 @@ pub(crate) fn res_name(plan: &Plan, res: ResId) -> &str {
     }
 }
 
-// A job by its number and task.
-#[derive(Clone, Copy)]
-struct Who<'a>(&'a Plan, Option<JobId>);
-
-impl fmt::Display for Who<'_> {
-    fn fmt<W: fmt::Write>(&self, f: &mut fmt::Formatter<W>) -> fmt::Result {
-        match self.1 {
-            Some(job) => write!(f, "job {} of {}", job.k, task_name(self.0, job.task)),
-            None => write!(f, "no job"),
-        }
-    }
-}
-
-// The name of a resource after a blank, if there is one.
-#[derive(Clone, Copy)]
-struct What<'a>(&'a Plan, Option<ResId>);
-
-impl fmt::Display for What<'_> {
-    fn fmt<W: fmt::Write>(&self, f: &mut fmt::Formatter<W>) -> fmt::Result {
-        match self.1 {
-            Some(res) => write!(f, " {}", res_name(self.0, res)),
-            None => Ok(()),
-        }
-    }
+fn job_words(scene: &Scene<'_>, job: Option<JobId>) -> Result<String, Memory> {
+    let Some(job) = job else {
+        return Ok(format!(in scene.alloc; "no job")?);
+    };
+    let task = task_name(scene.plan, job.task);
+    Ok(format!(in scene.alloc; "job {} of {task}", job.k)?)
 }
 
 fn deed(kind: Kind) -> &'static str {
@@ -86,24 +67,32 @@ pub(crate) fn say_ticks(text: &mut String, scene: &Scene<'_>) -> Added {
 }
 
 /// Writes what a block shows.
-pub(crate) fn say_block(text: &mut String, plan: &Plan, block: &Block) -> Added {
+pub(crate) fn say_block(text: &mut String, scene: &Scene<'_>, block: &Block) -> Added {
     let (first, last) = (block.first, block.end.saturating_sub(1));
     if first < last {
         write!(text, "ticks {first} to {last}: ")?;
     } else {
         write!(text, "tick {first}: ")?;
     }
-    let (who, what) = (Who(plan, block.job), What(plan, block.res));
+    let who = job_words(scene, block.job)?;
     match block.look {
         Look::Runs => write!(text, "{who} runs")?,
-        Look::Does(kind) => write!(text, "{who} {}{what}", deed(kind))?,
-        Look::Holds => write!(text, "{who} holds{what}")?,
-        Look::First(0) => write!(text, "{who} is alone in the queue of{what}")?,
-        Look::First(waiting) => write!(text, "{who} is ahead of {waiting} in the queue of{what}")?,
+        Look::Does(kind) => write!(text, "{who} {}", deed(kind))?,
+        Look::Holds => write!(text, "{who} holds")?,
+        Look::First(0) => write!(text, "{who} is alone in the queue of")?,
+        Look::First(waiting) => write!(text, "{who} is ahead of {waiting} in the queue of")?,
         Look::Life(true) => write!(text, "{who}, from release to completion")?,
         Look::Life(false) => write!(text, "{who}, released and not finished")?,
         Look::Late => write!(text, "{who} is past its absolute deadline")?,
         Look::Ceiling(level) => write!(text, "ceiling {level}")?,
+    }
+    say_res(text, scene, block.res)
+}
+
+// Writes the name of a resource after a blank, if there is one.
+fn say_res(text: &mut String, scene: &Scene<'_>, res: Option<ResId>) -> Added {
+    if let Some(res) = res {
+        write!(text, " {}", res_name(scene.plan, res))?;
     }
     Ok(())
 }
@@ -118,22 +107,19 @@ pub(crate) fn moment_words(moment: Moment) -> (&'static str, &'static str) {
 }
 
 /// Writes what an event is.
-pub(crate) fn say_event(text: &mut String, plan: &Plan, event: &Event) -> Added {
+pub(crate) fn say_event(text: &mut String, scene: &Scene<'_>, event: &Event) -> Added {
     let (_, moment) = moment_words(event.moment);
-    let (tick, who) = (event.tick, Who(plan, Some(event.job)));
+    let (tick, who) = (event.tick, job_words(scene, Some(event.job))?);
     write!(text, "at {tick}: {moment} of {who}")?;
     Ok(())
 }
 
 /// Writes what is wrong with the first row that violates a rule.
-pub(crate) fn say_violation(text: &mut String, plan: &Plan, violation: &Violation) -> Added {
+pub(crate) fn say_violation(text: &mut String, scene: &Scene<'_>, violation: &Violation) -> Added {
     let (row, rule) = (violation.row, violation.rule);
-    let (who, what, deed) = (Who(plan, row.job), What(plan, row.res), deed(row.kind));
-    write!(
-        text,
-        "tick {}, core {}: {who} {deed}{what}, ",
-        row.tick, row.core.0
-    )?;
-    write!(text, "which violates rule {rule:?}")?;
+    let (who, deed) = (job_words(scene, row.job)?, deed(row.kind));
+    write!(text, "tick {}, core {}: {who} {deed}", row.tick, row.core.0)?;
+    say_res(text, scene, row.res)?;
+    write!(text, ", which violates rule {rule:?}")?;
     Ok(())
 }

@@ -64,7 +64,7 @@ const VERSION: &str = "version";
 
 // What the help says of each.
 const ABOUT: &str =
-    "MSRP 0.1.0, shows a trace of a plan: a picture, the reasons of its verdict, or a file for another tool";
+    "MSRP 0.2.0, shows a trace of a plan: a picture, the reasons of its verdict, or a file for another tool";
 
 const TEXT_HELP: &str = "plain-text picture (default)";
 
@@ -268,5 +268,29 @@ pub fn command_of<'a>(alloc: Global, words: &'a [String]) -> Result<Cmd<'a>, Cli
     match grammar(alloc)?.try_get_matches_from(words) {
         Ok(matches) => asked_for(&matches),
         Err(error) => answer_to(error.kind()),
+    }
+}
+
+// Why arguments that the parser takes are no command, or none for this plan.
+fn misuse_in(matches: &ArgMatches<'_>) -> &'static str {
+    let from = tick_of(value_of(matches, FROM));
+    let to = tick_of(value_of(matches, TO));
+    match view_of(matches) {
+        _ if from.is_err() || to.is_err() => "error: --from and --to take whole numbers\n",
+        Err(_) => "error: these options can't be combined\n",
+        Ok(view) if shown_of(view, matches).is_err() => {
+            "error: give a plan and a trace, not both from standard input (-); only --why works without a trace\n"
+        }
+        Ok(_) => "error: the plan doesn't have these ticks\n",
+    }
+}
+
+/// Why these arguments are no command, or none for this plan, for a person.
+pub fn usage_text<'a>(alloc: Global, words: &'a [String]) -> Result<String, CliFault>
+    ensures { IfErr result (λ fault. fault ≡ CliFault.Memory) }
+{
+    match grammar(alloc)?.try_get_matches_from(words) {
+        Ok(matches) => Ok(String::from_str(alloc, misuse_in(&matches))?),
+        Err(answer) => Ok(answer.to_string(alloc)?),
     }
 }

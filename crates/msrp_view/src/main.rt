@@ -6,9 +6,10 @@
 
 mod cli;
 
-use cli::{Cmd, View, command_of, help_text};
+use cli::{Cmd, View, command_of, help_text, usage_text};
 use msrp_cli::{open, open_both, words_of};
 use msrp_engine::{CliFault, exit_of, write_answer};
+use msrp_hints::{NOT_UTF8, Paths, are_wanted, hint_on};
 use msrp_plan::bytes::{Sink, Source};
 use msrp_view_engine::{export_text, view_text, why_plan_text, why_text};
 use std::alloc::Global;
@@ -58,7 +59,7 @@ fn answer<W: Write>(rt: &HostRuntime, cmd: Cmd<'_>, out: &mut Sink<W>) -> Result
         Cmd::Help => write_answer(out, help_text(alloc)?.as_bytes(), Ok(0)),
         Cmd::Version => {
             let release = release_info(rt);
-            out.add(b"msrp_view 0.1.0\n");
+            out.add(b"msrp_view 0.2.0\n");
             match &release {
                 Some(release) => write_answer(out, release.as_slice(), Ok(0)),
                 None => write_answer(out, NO_RELEASE, Ok(0)),
@@ -81,9 +82,8 @@ fn answer<W: Write>(rt: &HostRuntime, cmd: Cmd<'_>, out: &mut Sink<W>) -> Result
     }
 }
 
-fn run(rt: &HostRuntime) -> Result<u8, CliFault> {
-    let words = words_of(rt)?;
-    let cmd = command_of(rt.alloc(), words.as_slice())?;
+fn run(rt: &HostRuntime, words: &[String]) -> Result<u8, CliFault> {
+    let cmd = command_of(rt.alloc(), words)?;
     let Ok(writer) = BufWriter::with_capacity(rt.alloc(), GATHERED, io::writer(rt)) else {
         return Err(CliFault::Memory);
     };
@@ -99,10 +99,44 @@ fn run(rt: &HostRuntime) -> Result<u8, CliFault> {
     Err(CliFault::Write)
 }
 
+// The reason of a fault. Words that were written have that of a refusal already.
+fn reason(
+    rt: &HostRuntime,
+    words: &Result<Vec<String>, CliFault>,
+    fault: CliFault,
+) -> Result<String, CliFault> {
+    let alloc = rt.alloc();
+    let words = match words {
+        Ok(words) if fault == CliFault::Usage => return usage_text(alloc, words.as_slice()),
+        Ok(words) => words,
+        Err(CliFault::Usage) => return Ok(String::from_str(alloc, NOT_UTF8)?),
+        Err(fault) => return Err(*fault),
+    };
+    let (view, plan, trace) = match command_of(alloc, words.as_slice())? {
+        Cmd::Show { view, plan, trace } => (view, plan, Some(trace)),
+        Cmd::WhyPlan { plan } => (View::Why, plan, None),
+        Cmd::Help | Cmd::Version => return Ok(String::new(alloc)),
+    };
+    match (fault, view, trace) {
+        (CliFault::Plan { .. }, View::Why, None) => Ok(String::new(alloc)),
+        (CliFault::Trace { .. }, View::Why, _) => Ok(String::new(alloc)),
+        _ => hint_on(rt, &Err(fault), Paths { plan, trace }),
+    }
+}
+
 fn main(rt: HostRuntime) -> ExitCode {
-    let outcome = run(&rt);
+    let words = words_of(&rt);
+    let outcome = match &words {
+        Ok(words) => run(&rt, words.as_slice()),
+        Err(fault) => Err(*fault),
+    };
     if let Err(fault) = &outcome {
         let _ = eprintln!(rt; "msrp_view: {fault}");
+        if are_wanted(&rt, true) {
+            if let Ok(reason) = reason(&rt, &words, *fault) {
+                let _ = eprint!(rt; "{reason}");
+            }
+        }
     }
     ExitCode::from(exit_of(&outcome))
 }

@@ -1,6 +1,6 @@
 -- What holds of what was made holds of what is answered to it.
 use Rattle.std.proofs.Common.{◌≡◌}
-use Rattle.msrp_plan.proofs.Common.{Result, Ok, Err, inl, inr}
+use Rattle.msrp_plan.proofs.Common.{Result, Ok, Err, inl, inr, some-nothing, wrote-some}
 use Rattle.msrp_engine.specs.Answered.{OrUnread}
 use Rattle.msrp_faults.specs.declared.faults.CliFault.{CliFault}
 use Rattle.msrp_faults.specs.declared.faults.CliFault.TheVariants.{Read, Memory}
@@ -19,3 +19,6 @@ err-unread fault answer P Q h gives f = or-unread (Err fault) answer P Q h (λ o
 -- what was made is no error
 pub ok-unread : {A B : Type 0} (made : A) (answer : Result B CliFault) (P Q : Type 0) → OrUnread (Ok made) P → (P → Q) → OrUnread answer Q
 ok-unread made answer P Q h f = or-unread (Ok made) answer P Q h (λ fault e. absurd (cc)) f
+
+-- what was written
+pub ruleset writes = (some-nothing, wrote-some)

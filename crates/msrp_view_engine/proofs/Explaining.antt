@@ -1,12 +1,13 @@
 -- What is found in rows that are judged as they are read, with the cause of a fault or the refusal behind them, and the words on it.
-use Rattle.std.proofs.Common.{◌≡◌, ◌⊎◌, ◌+◌, ◌-◌, ◌*◌, ◌<◌, ◌++◌, ◌∷◌, ◌∙◌}
-use Rattle.msrp_plan.proofs.Common.{[], ℕ, true, List, Option, Some, None, length, IfOk, IfErr, ap, sym, subst, inl, inr, append_assoc, length-append, same_Some, ⊤, IfSome, option_or, PlanModel, fault_in, missing, verdict}
+use Rattle.std.proofs.Common.{◌≡◌, ◌⊎◌, ◌+◌, ◌-◌, ◌++◌, ◌∷◌, ◌∙◌}
+use Rattle.msrp_plan.proofs.Common.{[], ℕ, true, List, Option, Some, None, IfOk, IfErr, ap, sym, subst, inl, inr, append_assoc, same_Some, ⊤, IfSome, option_or, PlanModel, fault_in, missing, verdict}
+use Rattle.msrp_plan.specs.Common.{IsOkAnd}
 use Rattle.msrp_plan.specs.declared.bytes.Sink.{Sink}
 use Rattle.msrp_plan.specs.declared.faults.Fault.{Fault}
 use Rattle.msrp_plan.specs.declared.rows.Row.{Row}
 use Rattle.std.specs.declared.result.Result.{Result}
 use Rattle.std.specs.declared.result.Result.TheVariants.{Ok, Err}
-use Rattle.msrp_audit.specs.Audits.{AuditorModel, HasFed, answer_of}
+use Rattle.msrp_audit.specs.Audits.{answer_of}
 use Rattle.msrp_text.specs.Lines.{BeginsIn}
 use Rattle.msrp_text.specs.declared.reading.TextError.{TextError}
 use Rattle.msrp_trace.specs.Reading.{Told, rows_of}
@@ -28,16 +29,6 @@ use Rattle.msrp_view_engine.specs.Answers.{AreOnTrace, is_record_fault}
 use Rattle.msrp_view_engine.specs.Whys.{BeginsRow, IsExplainedOf, IsJudged, WhyAnswers, WritesWords}
 use Rattle.msrp_view_engine.specs.declared.why.Judged.{Judged}
 use Rattle.msrp_view_engine.specs.declared.words.Words.{Words}
-
--- one row more was fed: it has no fault, and fewer turns are left
-pub row-fed : (old new : AuditorModel) (rows : List Row) (r : Row) → HasFed old rows → old.fault ≡ None → HasFed new (rows ++ r ∷ []) → new.fault ≡ None → new.plan ≡ old.plan
-    → (fault_in old.plan (rows ++ r ∷ []) ≡ None) × (new.plan.cores * new.plan.ticks - new.fed < old.plan.cores * old.plan.ticks - old.fed)
-row-fed old new rows r fed good more legal plan =
-    let none : fault_in old.plan (rows ++ r ∷ []) ≡ None = subst (λ (p : PlanModel). fault_in p (rows ++ r ∷ []) ≡ None) plan (sym more.fault ∙ legal) in
-    let was : old.fed ≡ length rows = fed.count good in
-    let now : new.fed ≡ old.fed + 1 = more.count legal ∙ (length-append rows (r ∷ []) ∙ ap (λ n. n + 1) (sym was)) in
-    let left = judging.turn-left old.plan rows r (sym fed.fault ∙ good) none in
-    (none, judging.fewer-left old.plan new.plan old.fed new.fed plan now (subst (λ n. n < old.plan.cores * old.plan.ticks) (sym was) left))
 
 -- an error of the reader, behind good rows
 pub refusal-judged : (plan : PlanModel) (told : Told) (rows : List Row) (left after : Option Told) (result : Result (Option Row) TraceError) (error : TraceError) (answer : Result Judged TraceError)
@@ -76,7 +67,7 @@ end-found plan told rows left after result found notes is next e good answer not
 
 -- ---- the words in memory
 abbrev pub IsExplained : PlanModel → Told → Result Words CliFault → Type 0
-IsExplained plan told answer = OrUnread answer (IfOk answer (λ words. words.found ≡ finding plan told))
+IsExplained plan told answer = OrUnread answer (IsOkAnd answer (λ words. words.found ≡ finding plan told))
 
 -- on a verdict
 pub judged-explained : (plan : PlanModel) (told : Told) (judged : Judged) (answer : Result Words CliFault) → IsJudged plan told (Ok judged)
@@ -110,12 +101,6 @@ unopened-judged remaining plan records error h = elim (unopened remaining plan r
   | inl same ↦ inl same
   | inr k ↦ elim k [ inl same ↦ inr (inl same) | inr told ↦ inr (inr (ap (finding plan) told, ap (λ (t : Told). t.refusal) told)) ]
 ]
-
--- words, or a read that failed or want of memory
-pub words-or : (plan : PlanModel) (records : List (List (List ℕ))) (answer : Result Words CliFault) → IsExplained plan (rows_of plan records) answer → IfErr answer (λ fault. (fault ≡ NoMemory) ⊎ (fault ≡ ReadFault))
-    → OrUnread answer (IsExplainedOf (Ok plan) records answer)
-words-or plan records (Ok words) explained fault = explained
-words-or plan records (Err f) explained fault = no-words f fault
 
 -- ---- what is answered to them
 -- the finding that comes with words, or the refusal in place of them

@@ -1,10 +1,8 @@
 -- Why a trace is no legal run: what is found, and what it rests on.
-use Rattle.std.specs.Prelude.{◌≡◌, ◌⊎◌, ◌+◌, ◌++◌, ◌∷◌}
-use Rattle.msrp_plan.specs.Common.{ℕ, List, [], Option, None, Some, Ok, Err, IfOk, IfSome, IsOkAnd, ⊤, Result, PlanModel, Wrote}
+use Rattle.std.specs.Prelude.{◌≡◌, ◌⊎◌, ◌+◌}
+use Rattle.msrp_plan.specs.Common.{ℕ, List, Option, Some, Ok, Err, IfOk, IfSome, IsOkAnd, ⊤, Result, PlanModel, Wrote}
 use Rattle.msrp_plan.specs.declared.bytes.Sink.{Sink}
 use Rattle.msrp_plan.specs.declared.faults.Fault.{Fault}
-use Rattle.msrp_plan.specs.declared.rows.Row.{Row}
-use Rattle.msrp_audit.specs.Audits.{AuditorModel, HasFed, IsBroken}
 use Rattle.msrp_text.specs.declared.reading.TextError.{TextError}
 use Rattle.msrp_text.specs.Lines.{BeginsIn}
 use Rattle.msrp_trace.specs.Reading.{Told, rows_of}
@@ -19,14 +17,8 @@ use Rattle.msrp_engine.specs.declared.made.Made.{Made}
 use Rattle.msrp_faults.specs.Outcomes.{answered, fault_of, trace_fault_of}
 use Rattle.msrp_faults.specs.declared.faults.CliFault.{CliFault}
 use Rattle.msrp_view_engine.specs.Answers.{BeginsWith, Refuses, answer_to}
-use Rattle.msrp_view_engine.specs.declared.why.Broken.{Broken}
 use Rattle.msrp_view_engine.specs.declared.why.Judged.{Judged}
 use Rattle.msrp_view_engine.specs.declared.words.Words.{Words}
-
--- after rows without a fault, the next row is fed too, or it violates a rule
-abbrev pub IsNextJudged : PlanModel → List Row → Row → Result ⊤ Broken → AuditorModel → Type 0
-IsNextJudged plan rows r (Ok legal) auditor = HasFed auditor (rows ++ r ∷ []) × (auditor.fault ≡ None)
-IsNextJudged plan rows r (Err broken) auditor = IsBroken plan rows r broken.fault broken.expected auditor
 
 -- what an audit of these rows finds, with the cause; or the refusal behind them, but for a read that failed and for memory
 abbrev pub IsJudged : PlanModel → Told → Result Judged TraceError → Type 0

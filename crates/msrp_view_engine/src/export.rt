@@ -55,9 +55,9 @@ fn export_rows<T: Read, W: Write>(
     loop {
         match rows.next_row()? {
             Judgement::Legal(row) => exporter.row(out, row)?,
-            Judgement::Broken(row, fault) => {
-                exporter.fault(out, fault.rule, Some(row))?;
-                return Ok(Err(fault));
+            Judgement::Broken(row, broken) => {
+                exporter.fault(out, broken.fault.rule, Some(row))?;
+                return Ok(Err(broken.fault));
             }
             Judgement::End => {
                 let found = rows.auditor().end();
@@ -69,6 +69,7 @@ fn export_rows<T: Read, W: Write>(
 }
 
 // Writes the rows of a trace's text, and what is found in them. Whatever ends the reading early may be told as a failed read.
+#[tactic(auto, using(crate::proofs::Answering::writes))]
 fn export_all<T: Read, W: Write>(
     alloc: Global,
     plan: &Plan,
@@ -111,6 +112,7 @@ fn export_plan<T: Read, W: Write>(
 ///
 /// The rows are judged as they come and written a tick at a time, and no list of them is kept. So where a record of the trace is refused, or a read fails,
 /// the rows before it may have been written. Of a refused plan nothing is.
+#[tactic(auto, using(crate::proofs::Answering::writes))]
 pub fn export_text<P: Read, T: Read, W: Write>(
     alloc: Global,
     plan: &mut Source<P>,

@@ -85,6 +85,7 @@ pub fn picture_of_texts<P: Read, T: Read>(
 ///
 /// All memory is taken before anything is written: so whatever the fault, but a write fault, nothing was written. A trace of
 /// which a record is refused isn't drawn. A refused plan is told whatever the trace.
+#[tactic(auto, using(crate::proofs::Answering::writes))]
 pub fn view_text<P: Read, T: Read, W: Write>(
     alloc: Global,
     plan: &mut Source<P>,

@@ -1,22 +1,22 @@
 //! Why a trace is no legal run: the verdict, the row that violates a rule, and the row expected in its place.
 ghost use Rattle.std.specs.Prelude.{◌≡◌, ◌⊎◌, ◌+◌};
-ghost use Rattle.msrp_plan.specs.Common.{ℕ, List, [], true, Ok, Some, None, Err, IfOk, IfErr, IfSome, WroteSome};
-ghost use Rattle.msrp_plan.specs.declared.rows.Row.{Row as TraceRow};
+ghost use Rattle.msrp_plan.specs.Common.{ℕ, List, [], true, Ok, Some, None, Err, IfOk, IfErr, IfSome, IsOkAnd, WroteSome};
 ghost use Rattle.msrp_audit.specs.Audits.{HasFed};
 ghost use Rattle.msrp_text.specs.Lines.{BeginsIn};
 ghost use Rattle.msrp_trace.specs.Reading.{Told, rows_of};
-ghost use Rattle.msrp_trace.specs.Readers.{HasReadBehind, HasReadIn, told_left};
+ghost use Rattle.msrp_trace.specs.Readers.{HasReadBehind, HasReadIn};
 ghost use Rattle.msrp_engine.specs.Answered.{Ends, IsVerdict, ReadsBoth, OfText, OfTexts, OrUnread};
 ghost use Rattle.msrp_engine.specs.Findings.{finding};
 ghost use Rattle.msrp_faults.specs.Outcomes.{is_audit_fault, is_plan_fault, trace_fault_of};
 ghost use Rattle.msrp_why.specs.Noted.{AreNoted};
 ghost use Rattle.msrp_view_engine.specs.Answers.{AreOnTrace, is_record_fault};
-ghost use Rattle.msrp_view_engine.specs.Whys.{BeginsRefused, BeginsRow, IsExplainedOf, IsJudged, IsNextJudged, IsWhyOf, WhyAnswers};
+ghost use Rattle.msrp_engine.specs.Judging.{rows_left};
+ghost use Rattle.msrp_view_engine.specs.Whys.{BeginsRefused, BeginsRow, IsExplainedOf, IsJudged, IsWhyOf, WhyAnswers};
 
 use crate::words::{Words, answer_to};
 use csv::ByteRecord;
 use msrp_audit::Auditor;
-use msrp_engine::{CliFault, Made, gathered_text, settled, write_answer};
+use msrp_engine::{CliFault, JudgedRows, Judgement, Made, gathered_text, settled, write_answer};
 use msrp_levels::Levels;
 use msrp_plan::bytes::{Sink, Source};
 use msrp_plan::{Fault, Plan, Row, TextVersion};
@@ -32,13 +32,6 @@ use std::io::{Read, Write};
 struct Judged {
     verdict: Result<(), Fault>,
     ground: Ground,
-}
-
-// Why a row is refused: the fault, and the expected row of its core, where the row is in its turn.
-#[derive(Clone, Copy, Debug)]
-struct Broken {
-    expected: Option<Row>,
-    fault: Fault,
 }
 
 // The line in which the record of a faulty row begins, where it is known. The record before that of the first row is the head.
@@ -59,60 +52,49 @@ fn line_of_refused<T: Read>(reader: &TraceReader<'_, T>, error: TraceError) -> O
     }
 }
 
-// Judges the next row, as long as none has violated a rule.
-fn judge(auditor: &mut Auditor<'_>, row: Row) -> Result<(), Broken>
-    ensures plan { auditor.new.plan ≡ auditor.old.plan }
-    ensures judged { (rows : List TraceRow) → HasFed auditor.old rows → auditor.old.fault ≡ None → IsNextJudged auditor.old.plan rows row result auditor.new }
-{
-    if !auditor.is_in_turn(row) {
-        return Err(Broken {
-            expected: None,
-            fault: auditor.fault_out_of_turn(),
-        });
-    }
-    let expected = auditor.turn(row.core);
-    match auditor.judge(expected, row) {
-        Ok(()) => Ok(()),
-        Err(fault) => Err(Broken {
-            expected: Some(expected),
-            fault,
-        }),
-    }
-}
-
-// What is found in the rows that a reader has left. They are judged as they are read, and none is read after a faulty one.
+// What is found in the rows that are left. None is read after a faulty one.
 fn judge_rows<T: Read>(
     plan: &Plan,
     levels: &Levels<'_>,
-    auditor: &mut Auditor<'_>,
     mut notes: Notes,
-    rows: &mut TraceReader<'_, T>,
+    rows: &mut JudgedRows<'_, '_, T>,
 ) -> Result<Judged, TraceError>
-    requires plan { auditor.old.plan ≡ plan.now }
+    requires plan { rows.old.auditor.plan ≡ plan.now }
     requires levels { levels.now ≡ plan.now }
-    requires fed { HasFed auditor.old [] }
+    requires fed { HasFed rows.old.auditor [] }
     requires noted { AreNoted plan.now [] notes }
-    ensures found { (told : Told) → told_left T.remaining rows.old ≡ Some told → IsJudged plan.now told result }
-    ensures line { (bytes : List ℕ) → HasReadIn T.remaining bytes rows.old → IfOk result (λ judged. BeginsRow bytes judged.ground) }
-    ensures read { (bytes : List ℕ) → HasReadIn T.remaining bytes rows.old → IfErr result (λ error. HasReadBehind T.remaining bytes (Err error) rows.new) }
+    ensures found { (told : Told) → rows_left T.remaining rows.old ≡ Some told → IsJudged plan.now told result }
+    ensures line { (bytes : List ℕ) → HasReadIn T.remaining bytes rows.old.rows → IfOk result (λ judged. BeginsRow bytes judged.ground) }
+    ensures read { (bytes : List ℕ) → HasReadIn T.remaining bytes rows.old.rows → IfErr result (λ error. HasReadBehind T.remaining bytes (Err error) rows.new.rows) }
 {
-    while let Some(row) = rows.next_foreseen(|core| auditor.foresee(core))? {
-        let state = auditor.state(row.core);
-        if let Err(broken) = judge(auditor, row) {
-            let Broken { expected, fault } = broken;
-            let line = line_of_row(rows, fault);
-            let cause = cause_of(plan, auditor, notes, state, expected, row, line, fault);
-            return Ok(Judged {
-                verdict: Err(fault),
-                ground: Ground::Row(cause),
-            });
+    loop {
+        match rows.next_with_state()? {
+            Judgement::Legal(row) => notes.note(plan, levels, rows.state(), row),
+            Judgement::Broken(row, broken) => {
+                let line = line_of_row(rows.reader(), broken.fault);
+                let cause = cause_of(
+                    plan,
+                    rows.auditor(),
+                    notes,
+                    rows.state(),
+                    broken.expected,
+                    row,
+                    line,
+                    broken.fault,
+                );
+                return Ok(Judged {
+                    verdict: Err(broken.fault),
+                    ground: Ground::Row(cause),
+                });
+            }
+            Judgement::End => {
+                return Ok(Judged {
+                    verdict: rows.auditor().end(),
+                    ground: Ground::End(notes),
+                });
+            }
         }
-        notes.note(plan, levels, state, row);
     }
-    Ok(Judged {
-        verdict: auditor.end(),
-        ground: Ground::End(notes),
-    })
 }
 
 // A verdict with these words, in memory.
@@ -192,25 +174,27 @@ fn words_on_refusal(
     })
 }
 
-// The words on the rows that a reader has left.
+// The words on the rows that are left.
 fn explain_rows<T: Read>(
     alloc: Global,
     plan: &Plan,
     levels: &Levels<'_>,
-    rows: &mut TraceReader<'_, T>,
+    notes: Notes,
+    rows: &mut JudgedRows<'_, '_, T>,
 ) -> Result<Words, CliFault>
+    requires plan { rows.old.auditor.plan ≡ plan.now }
     requires levels { levels.now ≡ plan.now }
-    ensures explained { (told : Told) → told_left T.remaining rows.old ≡ Some told → OrUnread result (IfOk result (λ words. words.found ≡ finding plan.now told)) }
+    requires fed { HasFed rows.old.auditor [] }
+    requires noted { AreNoted plan.now [] notes }
+    ensures explained { (told : Told) → rows_left T.remaining rows.old ≡ Some told → OrUnread result (IsOkAnd result (λ words. words.found ≡ finding plan.now told)) }
     ensures words { IfOk result AreOnTrace }
     ensures fault { IfErr result (λ fault. (fault ≡ CliFault.Memory) ⊎ (fault ≡ CliFault.Read)) }
 {
-    let mut auditor = Auditor::with_room(alloc, plan, levels)?;
-    let notes = Notes::with_room(alloc, plan)?;
-    match judge_rows(plan, levels, &mut auditor, notes, rows) {
-        Ok(judged) => words_on(alloc, plan, levels, rows.version(), &judged),
+    match judge_rows(plan, levels, notes, rows) {
+        Ok(judged) => words_on(alloc, plan, levels, rows.reader().version(), &judged),
         Err(error) => {
-            let line = line_of_refused(rows, error);
-            words_on_refusal(alloc, plan, error, line, rows.record())
+            let line = line_of_refused(rows.reader(), error);
+            words_on_refusal(alloc, plan, error, line, rows.reader().refused_record())
         }
     }
 }
@@ -221,18 +205,21 @@ fn explain_all<T: Read>(
     plan: &Plan,
     trace: &mut Source<T>,
 ) -> Result<Words, CliFault>
-    ensures explained { OfText T.remaining trace.old result (λ records. IfOk result (λ words. words.found ≡ finding plan.now (rows_of plan.now records))) }
+    ensures explained { OfText T.remaining trace.old result (λ records. IsOkAnd result (λ words. words.found ≡ finding plan.now (rows_of plan.now records))) }
     ensures words { IfOk result AreOnTrace }
     ensures fault { IfErr result (λ fault. (fault ≡ CliFault.Memory) ⊎ (fault ≡ CliFault.Read)) }
 {
     let levels = Levels::of(alloc, plan)?;
-    let mut rows = match TraceReader::open(alloc, trace, plan) {
-        Ok(rows) => rows,
+    let auditor = Auditor::with_room(alloc, plan, &levels)?;
+    let notes = Notes::with_room(alloc, plan)?;
+    let reader = match TraceReader::open(alloc, trace, plan) {
+        Ok(reader) => reader,
         Err(unopened) => {
             return words_on_refusal(alloc, plan, unopened.error, unopened.line, &unopened.first);
         }
     };
-    let words = explain_rows(alloc, plan, &levels, &mut rows);
+    let mut rows = JudgedRows::new(plan, auditor, reader);
+    let words = explain_rows(alloc, plan, &levels, notes, &mut rows);
     drop(rows);
     words
 }
@@ -282,6 +269,7 @@ pub fn why_of_texts<P: Read, T: Read>(
 ///
 /// The rows are judged as they come, and one is kept at a time. All memory is taken before anything is written. Of a refused plan nothing is
 /// written.
+#[tactic(auto, using(crate::proofs::Answering::writes))]
 pub fn why_text<P: Read, T: Read, W: Write>(
     alloc: Global,
     plan: &mut Source<P>,

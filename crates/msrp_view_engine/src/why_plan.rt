@@ -143,6 +143,7 @@ pub fn why_of_plan<P: Read>(
 /// answer to a refused plan is its refusal, as every engine gives it.
 ///
 /// All memory is taken before anything is written: so whatever the fault, but a refusal or a write fault, nothing was written.
+#[tactic(auto, using(crate::proofs::Answering::writes))]
 pub fn why_plan_text<P: Read, W: Write>(
     alloc: Global,
     name: &str,

@@ -1,5 +1,5 @@
 -- The rows before a fault, and the cores that have a turn after them.
-use Rattle.msrp_plan.proofs.Common.{ℕ, [], Bool, true, false, cond, nat_lt, List, Option, Some, None, length, refl, ap, sym, subst, arith, append-nil, append_assoc, length-append, range_with_len, filter-append, PlanModel, IsLegal, IsRunStart, EachAfter, broken, fault_in, fault_or, unbroken_is_legal, range_more}
+use Rattle.msrp_plan.proofs.Common.{ℕ, [], Bool, true, false, cond, nat_lt, List, Option, Some, None, length, refl, ap, sym, subst, arith, append-nil, append_assoc, length-append, range_with_len, PlanModel, IsLegal, IsRunStart, EachAfter, broken, fault_in, fault_or, unbroken_is_legal}
 use Rattle.msrp_plan.specs.declared.faults.Fault.{Fault}
 use Rattle.msrp_plan.specs.declared.faults.Rule.{Rule}
 use Rattle.msrp_plan.specs.declared.faults.Rule.TheVariants.{A7}
@@ -7,6 +7,7 @@ use Rattle.msrp_plan.specs.declared.rows.Row.{Row}
 use Rattle.std.proofs.Common.{◌≡◌, ◌+◌, ◌*◌, ◌≤◌, ◌++◌, ◌∷◌, ◌∙◌, ltb-true, filter}
 use Rattle.msrp_plan.specs.Verdict.{fault_from}
 use Rattle.msrp_audit.specs.Audits.{has_turn}
+use Rattle.msrp_levels.proofs.Gathered.{gather_no, gather_yes}
 
 -- a row without a fault is expected, and breaks no rule
 good_next : (n : ℕ) (later : Option Fault) (due : Bool) (o : Option Rule) → fault_or (cond due o (Some A7)) n later ≡ None → (due ≡ true) × (o ≡ None) × (later ≡ None)
@@ -26,18 +27,10 @@ pub good_start : (plan : PlanModel) (rows : List Row) → fault_in plan rows ≡
 good_start plan rows h = let all = legal_after plan [] rows (omega arith) h in record { size = all.1; each = all.0 }
 
 -- the cores that have a turn, one more
-append_if : (b : Bool) (xs : List ℕ) (x : ℕ) → cond b (xs ++ x ∷ []) xs ≡ xs ++ cond b (x ∷ []) []
-append_if true xs x = refl
-append_if false xs x = sym (append-nil xs)
-
 pub turns_more : (plan : PlanModel) (rows : List Row) (n : ℕ) (b : Bool) (old new : List ℕ) → b ≡ has_turn plan rows n → new ≡ cond b (old ++ n ∷ []) old → old ≡ filter (has_turn plan rows) (range_with_len 0 n)
     → new ≡ filter (has_turn plan rows) (range_with_len 0 (n + 1))
-turns_more plan rows n b old new is step was =
-    let p = has_turn plan rows in
-    let at : 0 + n ≡ n = omega arith in
-    let whole : filter p (range_with_len 0 (n + 1)) ≡ filter p (range_with_len 0 n) ++ cond (p n) (n ∷ []) [] =
-    ap (filter p) (range_more 0 n) ∙ (filter-append p (range_with_len 0 n) ((0 + n) ∷ []) ∙ ap (λ k. filter p (range_with_len 0 n) ++ cond (p k) (k ∷ []) []) at) in
-    step ∙ (append_if b old n ∙ (ap (λ xs. xs ++ cond b (n ∷ []) []) was ∙ (ap (λ c. filter p (range_with_len 0 n) ++ cond c (n ∷ []) []) is ∙ sym whole)))
+turns_more plan rows n true old new is step was = gather_yes (has_turn plan rows) n old new (sym is) was step
+turns_more plan rows n false old new is step was = step ∙ gather_no (has_turn plan rows) n old (sym is) was
 
 pub turns_few : (b : Bool) (n : ℕ) (old new : List ℕ) → new ≡ cond b (old ++ n ∷ []) old → length old ≤ n → length new ≤ n + 1
 turns_few true n old new step few = let l = ap length step in omega (arith, l, length-append old (n ∷ []), few)

@@ -1,8 +1,8 @@
 -- What a run exercised, one row more.
-use Rattle.msrp_plan.proofs.Common.{All-contains, All-from_recursion, Contains, core_jobs_below, each_at, each_before, least_in, log_of, ℕ, suc, max, Bool, true, false, cond, not, nat_lt, List, [], Option, Some, None, refl, ap, sym, subst, arith, length, length-append, append-nil, append_assoc, inl, inr, ForSome, mul-le-mul_left, and_parts, not-true, count_after, is_before, done, is_job, is_released, is_started, jobs_of, jobs_on, PlanModel, is_on, IsLegal, IsRunStart, IsPlan, is_job_is, same_self, IsTurn, legal_turn, turn_chosen, turn_core, least_passes, is_queue}
+use Rattle.msrp_plan.proofs.Common.{All-contains, All-from_recursion, Contains, core_jobs_below, each_at, each_before, least_in, log_of, ℕ, suc, max, Bool, true, false, cond, not, nat_lt, List, [], Option, Some, None, refl, ap, sym, arith, length, length-append, append-nil, append_assoc, inl, inr, ForSome, mul-le-mul_left, and_parts, not-true, count_after, is_before, done, is_job, is_released, is_started, jobs_of, jobs_on, PlanModel, is_on, IsLegal, IsRunStart, IsPlan, is_job_is, same_self, IsTurn, legal_turn, turn_chosen, turn_core, least_passes, is_queue, units}
 use Rattle.msrp_plan.specs.declared.ids.JobId.{JobId}
 use Rattle.msrp_plan.specs.declared.rows.Row.{Row}
-use Rattle.std.proofs.Common.{◌≡◌, ◌+◌, ◌*◌, ◌<◌, ◌≤◌, ◌&&◌, ◌∷◌, ◌++◌, ◌∙◌, lt-ltb}
+use Rattle.std.proofs.Common.{◌≡◌, ◌+◌, ◌<◌, ◌≤◌, ◌&&◌, ◌∷◌, ◌++◌, ◌∙◌, lt-ltb, ◌==◌}
 use Rattle.std.proofs.Math.Nat.{max-zero}
 use Rattle.msrp_core.specs.CoreStates.{IsCoreState}
 use Rattle.msrp_core.specs.declared.states.CoreState.{CoreState}
@@ -11,12 +11,12 @@ use Rattle.msrp_plan.proofs.Choosing.Live.{nothing_done}
 use Rattle.msrp_plan.proofs.Choosing.Turns.{has_turn}
 use Rattle.msrp_plan.proofs.Runs.CoreRuns.{reached_tick}
 use Rattle.msrp_audit.proofs.Judging.{own_is}
-use Rattle.msrp_why.specs.Noted.{AreResourceCounts, ends, finishes, is_entry, is_in_tick, most_after, one_if, queued_with}
-use Rattle.msrp_why.specs.Inside.{IsCountStep, finishes_from, is_job_of, units_done}
+use Rattle.msrp_why.specs.Noted.{AreResourceCounts, is_entry, is_in_tick, most_after, queued_with}
+use Rattle.msrp_why.specs.Inside.{is_job_of, units_done, one_if}
 use Rattle.msrp_why.specs.NumberedRows.{last_change, queue_rows}
 use Rattle.msrp_why.specs.declared.exercise.ResourceCounts.{ResourceCounts}
-use Rattle.msrp_why.specs.declared.notes.ResourceNotes.{ResourceNotes}
 use Rattle.msrp_plan.specs.Laws.{is_grant}
+use Rattle.std.specs.Option.{option_map_or}
 
 -- a row of a run is in its core's next tick
 pub tick_is : (plan : PlanModel) (rows : List Row) (r : Row) → IsRunStart plan (rows ++ r ∷ []) → length (log_of r.core.0 rows) ≡ r.tick
@@ -30,14 +30,11 @@ pub head_known : (plan : PlanModel) (c t : ℕ) (rows : List Row) (s : CoreState
 head_known plan c t rows s is = λ h e. below plan c h (least_in (is_before plan) (λ j. is_released plan t j && not (is_started rows j)) (jobs_on plan c) h (sym is.head ∙ e))
 
 -- the rows before another are few
-few : (n cores ticks : ℕ) → n ≤ cores * ticks → cores ≤ 8 → ticks ≤ 20000 → n ≤ 160000
-few n cores ticks h c t = let a = mul-le-mul_left cores t in omega (arith, a)
-
 pub few_before : (plan : PlanModel) (rows : List Row) (r : Row) → IsPlan plan → IsRunStart plan (rows ++ r ∷ []) → length rows < 160000
 few_before plan rows r ok start =
     let size = length-append rows (r ∷ []) in
-    let most = few (length (rows ++ r ∷ [])) plan.cores plan.ticks start.size ok.draft.cores.1 ok.draft.ticks.1 in
-    omega (arith, size, most)
+    let most = mul-le-mul_left plan.cores ok.draft.ticks.1 in
+    omega (arith, size, start.size, most, ok.draft.cores.1)
 
 -- no more are counted than there are rows
 count_few : {X : Type 0} (p : List X → X → Bool) (pre xs : List X) → count_after p pre xs ≤ length xs
@@ -48,15 +45,13 @@ count_few p pre (x ∷ xs) = by_test (p pre x) (count_few p (pre ++ x ∷ []) xs
     by_test true h = omega (arith, h)
     by_test false h = omega (arith, h)
 
-at_most : (n : ℕ) (b : Bool) (l : ℕ) → n ≤ l → l < 160000 → one_if n b ≡ n + cond b 1 0
-at_most n true l h few = omega (arith, h, few)
-at_most n false l h few = omega (arith, h, few)
-
 -- a count with one row more
 pub one_more_counted : (p : List Row → Row → Bool) (rows : List Row) (r : Row) (b : Bool) (old new : ℕ) → length rows < 160000 → p rows r ≡ b → new ≡ one_if old b → old ≡ count_after p [] rows → new ≡ count_after p [] (rows ++ r ∷ [])
-one_more_counted p rows r b old new few is step was =
-    let n : old ≤ length rows = subst (λ k. k ≤ length rows) (sym was) (count_few p [] rows) in
-    step ∙ (at_most old b (length rows) n few ∙ (ap (λ k. k + cond b 1 0) was ∙ (ap (λ c. count_after p [] rows + cond c 1 0) (sym is) ∙ sym (count_after_push p [] rows r))))
+one_more_counted p rows r b old new few is step was = step ∙ (by_test b ∙ sym (count_after_push p [] rows r ∙ ap (λ c. count_after p [] rows + cond c 1 0) is))
+  where
+    by_test : (b : Bool) → one_if old b ≡ count_after p [] rows + cond b 1 0
+    by_test true = let n = count_few p [] rows in omega (arith, n, was, few)
+    by_test false = let n = count_few p [] rows in omega (arith, n, was, few)
 
 -- and with one that doesn't count
 pub none_more_counted : (p : List Row → Row → Bool) (rows : List Row) (r : Row) (n : ℕ) → p rows r ≡ false → n ≡ count_after p [] rows → n ≡ count_after p [] (rows ++ r ∷ [])
@@ -93,18 +88,6 @@ counts_off g rows r n off was = record {
   longest = most_without g rows r n.longest off was.longest;
 }
 
--- a row on it
-pub counts_on : (g : ℕ) (rows : List Row) (r : Row) (old new : ResourceNotes) → length rows < 160000 → is_on g r.res ≡ true → IsCountStep r old new → old.last ≡ last_change g rows → new.queue.items ≡ queue_rows g (rows ++ r ∷ []) → AreResourceCounts rows g old.counts → AreResourceCounts (rows ++ r ∷ []) g new.counts
-counts_on g rows r old new few on step last queue was = record {
-  free = one_more_counted _ rows r _ old.counts.free new.counts.free few (ap (λ b. b && is_entry r.kind) on) step.free was.free;
-  joined = one_more_counted _ rows r _ old.counts.joined new.counts.joined few (ap (λ b. b && is_queue r.kind) on) step.joined was.joined;
-  at_once = one_more_counted _ rows r _ old.counts.at_once new.counts.at_once few
-      (ap (λ b. b && (is_grant r.kind && is_in_tick r.tick (last_change g rows))) on ∙ ap (λ l. is_grant r.kind && is_in_tick r.tick l) (sym last)) step.at_once was.at_once;
-  later = one_more_counted _ rows r _ old.counts.later new.counts.later few
-      (ap (λ b. b && (is_grant r.kind && not (is_in_tick r.tick (last_change g rows)))) on ∙ ap (λ l. is_grant r.kind && not (is_in_tick r.tick l)) (sym last)) step.later was.later;
-  longest = most_with g rows r old.counts.longest new.counts.longest on (step.longest ∙ ap (λ q. max old.counts.longest (length q)) queue) was.longest;
-}
-
 -- ---- what the turns met
 module _ (plan : PlanModel) (rows : List Row) (r : Row) (s : CoreState) (ok : IsPlan plan) (legal : IsLegal plan rows r) (is : IsCoreState plan r.core.0 r.tick rows s) where
   turn : IsTurn plan rows r
@@ -121,19 +104,16 @@ module _ (plan : PlanModel) (rows : List Row) (r : Row) (s : CoreState) (ok : Is
       ap (λ b. b && nat_lt j.k (length (jobs_of plan j.task.0))) (lt-ltb j.task.0 (length plan.tasks) low) ∙ k
 
   -- how many units the row's job has done
-  runs_so : (j : JobId) → s.running ≡ Some j → s.done ≡ done j rows
-  runs_so j runs = is.done j runs
-
   new_so : (j : JobId) → done j rows ≡ 0 → (b : Bool) → is_job s.running j ≡ b → cond b s.done 0 ≡ done j rows
-  new_so j none true runs = runs_so j (is_job_is s.running j runs)
+  new_so j none true runs = is.done j (is_job_is s.running j runs)
   new_so j none false runs = sym none
 
   done_so : (j : JobId) → r.job ≡ Some j → units_done s j ≡ done j rows
   done_so j job = elim (has_turn plan r.core.0 r.tick rows j (turn_chosen plan rows r j turn job)) [
     | inl new ↦ (let passes = and_parts (is_released plan r.tick j) (not (is_started rows j)) (least_passes (is_before plan) (λ i. is_released plan r.tick i && not (is_started rows i)) (jobs_on plan r.core.0) j new.first) in new_so j (nothing_done rows j (not-true (is_started rows j) passes.1)) (is_job s.running j) refl)
-    | inr runs ↦ ap (λ o. cond (is_job o j) s.done 0) (is.running ∙ runs) ∙ (ap (λ b. cond b s.done 0) (same_self j) ∙ runs_so j (is.running ∙ runs))
+    | inr runs ↦ ap (λ o. cond (is_job o j) s.done 0) (is.running ∙ runs) ∙ (ap (λ b. cond b s.done 0) (same_self j) ∙ is.done j (is.running ∙ runs))
   ]
 
-  pub finishes_by : (o : Option JobId) → r.job ≡ o → finishes plan rows r o ≡ finishes_from plan s r.kind o
+  pub finishes_by : (o : Option JobId) → r.job ≡ o → option_map_or (λ j. done j rows + 1 == length (units plan j)) o false ≡ option_map_or (λ j. units_done s j + 1 == length (units plan j)) o false
   finishes_by None job = refl
-  finishes_by (Some j) job = ap (λ n. ends plan r.kind n j) (sym (done_so j job))
+  finishes_by (Some j) job = ap (λ n. n + 1 == length (units plan j)) (sym (done_so j job))

@@ -25,8 +25,9 @@ IsInTurn plan rows r = (length rows < plan.cores * plan.ticks) × (is_in_turn pl
 abbrev pub MissesTurn : PlanModel → List Row → Row → Type 0
 MissesTurn plan rows r = (length rows < plan.cores * plan.ticks) × (is_in_turn plan rows r ≡ false)
 
--- why this row is refused after these, which have no fault. In its turn, the expected row is the one legal row of its core after these, with its
--- ahead, and the state is the one in which they leave its core; out of turn, the turns are those still to come
+-- why this row is refused after these, which have no fault. In its turn, the expected row is the
+-- one legal row of its core after these, with its ahead, and the state is the one in which they
+-- leave its core; out of turn, the turns are those still to come
 pub record IsCauseAfter (plan : PlanModel) (rows : List Row) (r : Row) (cause : Cause) : Type 0 where
   pub good : fault_in plan rows ≡ None
   pub fault : fault_in plan (rows ++ r ∷ []) ≡ Some cause.fault
@@ -44,7 +45,8 @@ pub record IsCauseIn (plan : PlanModel) (rows : List Row) (cause : Cause) : Type
   pub place : rows ≡ before ++ row ∷ behind
   pub is : IsCauseAfter plan before row cause
 
--- what a verdict on rows rests on: the cause of a fault at one of them; or, where none has a fault, what is noted of all
+-- what a verdict on rows rests on: the cause of a fault at one of them; or, where none has a fault,
+-- what is noted of all
 abbrev pub IsGroundOf : PlanModel → List Row → Result ⊤ Fault → Ground → Type 0
 IsGroundOf plan rows found (AtRow cause) = (found ≡ Err cause.fault) × IsCauseIn plan rows cause
 IsGroundOf plan rows found (End notes) = (found ≡ answer_of (missing plan rows)) × AreNoted plan rows notes

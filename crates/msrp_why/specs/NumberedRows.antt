@@ -1,10 +1,10 @@
 -- Rows with their numbers: those of who stands in a queue, and the last change of a resource.
-use Rattle.msrp_plan.specs.Common.{ℕ, List, [], Bool, true, false, Option, Some, None, drop, fold, count_by, is_on, is_request, is_release_of}
+use Rattle.msrp_plan.specs.Common.{ℕ, List, [], Bool, Option, Some, None, drop, fold, count_by, is_on, is_request, is_release, is_release_of, same_kind}
 use Rattle.msrp_plan.specs.declared.ids.JobId.{JobId}
 use Rattle.msrp_plan.specs.declared.rows.Kind.{Kind}
-use Rattle.msrp_plan.specs.declared.rows.Kind.TheVariants.{Lock, Release, Unlock}
+use Rattle.msrp_plan.specs.declared.rows.Kind.TheVariants.{Lock, Unlock}
 use Rattle.msrp_plan.specs.declared.rows.Row.{Row}
-use Rattle.std.specs.Prelude.{◌∷◌, ◌&&◌, ◌+◌, ◌≡◌, filter}
+use Rattle.std.specs.Prelude.{◌∷◌, ◌&&◌, ◌||◌, ◌+◌, ◌≡◌, filter}
 use Rattle.msrp_why.specs.declared.notes.Numbered.{Numbered}
 
 -- rows with their numbers, where so many come before
@@ -20,15 +20,13 @@ job_of e = e.row.job
 abbrev pub requests : ℕ → Numbered → Bool
 requests g e = is_on g e.row.res && is_request e.row.kind
 
--- the rows of those who stand in the queue of a resource: its requests, in order, without as many at the front as released it
+-- the rows of those who stand in the queue of a resource: its requests, in order, without as many
+-- at the front as released it
 abbrev pub queue_rows : ℕ → List Row → List Numbered
 queue_rows g rows = drop (count_by (is_release_of g) rows) (filter (requests g) (numbered 0 rows))
 
 abbrev pub is_change : Kind → Bool
-is_change Lock = true
-is_change Unlock = true
-is_change Release = true
-is_change _ = false
+is_change k = same_kind k Lock || (same_kind k Unlock || is_release k)
 
 -- a lock, an unlock or a release of the resource
 abbrev pub changes : ℕ → Numbered → Bool

@@ -4,7 +4,8 @@ ghost use Rattle.msrp_plan.specs.Common.{[], List, None, length, fault_in, IsPla
 ghost use Rattle.msrp_audit.specs.Audits.{HasFed, IsBroken};
 ghost use Rattle.msrp_plan.specs.declared.rows.Row.{Row as TraceRow};
 ghost use Rattle.msrp_why.specs.Causes.{IsCauseAfter, cores_with_turn};
-ghost use Rattle.msrp_why.specs.Noted.{AreNoted, IsStateAfter};
+ghost use Rattle.msrp_core.specs.CoreStates.{IsStateAfter};
+ghost use Rattle.msrp_why.specs.Noted.{AreNoted};
 
 use crate::notes::Notes;
 use arrayvec::ArrayVec;
@@ -28,7 +29,8 @@ pub struct Cause {
     pub expected: Option<Row>,
     /// What decided before the row who runs on its core, where the plan has the core.
     pub state: Option<CoreState>,
-    /// The cores that had their turns in the expected tick still to come, where the row isn't in its turn.
+    /// The cores that had their turns in the expected tick still to come, where the row isn't in
+    /// its turn.
     pub turns: ArrayVec<u32, MOST_TURNS>,
     /// What was noted of the rows before.
     pub notes: Notes,
@@ -65,9 +67,9 @@ fn cores_with_turn(plan: &Plan, auditor: &Auditor<'_>) -> ArrayVec<u32, MOST_TUR
     found
 }
 
-/// The cause of the fault of a row, which an auditor has judged. The notes and the state of its core are those before the row;
-/// `expected` is the expected row of its core, where the row is in its turn; `line` is the line in which the row's record begins, where
-/// that is known.
+/// The cause of the fault of a row, which an auditor has judged. The notes and the state of its
+/// core are those before the row; `expected` is the expected row of its core, where the row is in
+/// its turn; `line` is the line in which the row's record begins, where that is known.
 pub fn cause_of(
     plan: &Plan,
     auditor: &Auditor<'_>,

@@ -1,11 +1,12 @@
-//! What a run exercised, counted as its rows are judged: a trace in which nothing happens is legal too.
-ghost use Rattle.std.specs.Prelude.{◌≡◌, ◌&&◌, ◌<◌, ◌++◌, ◌∷◌};
-ghost use Rattle.msrp_plan.specs.Common.{[], List, length, not, true, ForSome, IsRunStart, IsPlan, is_grant, release_tick, is_queue};
+//! What a run exercised, counted as its rows are judged: a trace in which nothing happens is legal
+//! too.
+ghost use Rattle.std.specs.Prelude.{◌≡◌, ◌==◌, ◌+◌, ◌&&◌, ◌<◌, ◌++◌, ◌∷◌};
+ghost use Rattle.msrp_plan.specs.Common.{[], List, length, max, not, true, false, ForSome, IsRunStart, IsPlan, IsSome, is_grant, is_queue, is_waiting, key, level, option_map, release_tick, units};
+ghost use Rattle.std.specs.Option.{option_map_or};
 ghost use Rattle.msrp_plan.specs.declared.rows.Row.{Row as TraceRow};
-ghost use Rattle.msrp_why.specs.Noted.{AreTurnCounts, ends, is_at, is_entry, is_in_tick, is_kept, is_met, is_other, is_past, one_if, nests};
-ghost use Rattle.msrp_why.specs.Inside.{finishes_from, is_job_of, units_done};
-ghost use Rattle.std.specs.Option.{IsSome};
 ghost use Rattle.msrp_core.specs.CoreStates.{IsCoreState};
+ghost use Rattle.msrp_why.specs.Noted.{AreTurnCounts, is_at, is_at_most, is_entry, is_in_tick, is_other, nests};
+ghost use Rattle.msrp_why.specs.Inside.{is_job_of, one_if, units_done};
 
 use crate::notes::Numbered;
 use msrp_core::CoreState;
@@ -13,7 +14,7 @@ use msrp_levels::Levels;
 use msrp_plan::{JobId, Kind, Plan, Row};
 
 /// What the rows on a resource met, in numbers of rows.
-#[derive(Clone, Copy, Debug)]
+#[derive(Clone, Copy, Debug, Default)]
 pub struct ResourceCounts {
     /// The rows that found it free.
     pub free: u32,
@@ -28,7 +29,7 @@ pub struct ResourceCounts {
 }
 
 /// What the turns of the cores met, in numbers of turns.
-#[derive(Clone, Copy, Debug)]
+#[derive(Clone, Copy, Debug, Default)]
 pub struct TurnCounts {
     /// A job finished.
     pub finished: u32,
@@ -59,36 +60,33 @@ fn both(one: bool, other: bool) -> bool
     one && other
 }
 
+fn is_at_most(value: Option<u64>, most: u64) -> bool
+    ensures { result ≡ is_at_most value most }
+{
+    value.is_some_and(|value| value <= most)
+}
+
+fn is_at(value: Option<u64>, at: u64) -> bool
+    ensures { result ≡ is_at value at }
+{
+    value.is_some_and(|value| value == at)
+}
+
 fn is_in_tick(tick: u32, last: Option<Numbered>) -> bool
     ensures { result ≡ is_in_tick tick last }
 {
-    match last {
-        Some(change) => change.row.tick == tick,
-        None => false,
-    }
+    last.is_some_and(|change| change.row.tick == tick)
 }
 
 impl ResourceCounts {
-    /// Before the first row.
-    pub(crate) fn new() -> ResourceCounts
-        ensures { result ≡ record { free = 0; joined = 0; at_once = 0; later = 0; longest = 0 } }
-    {
-        ResourceCounts {
-            free: 0,
-            joined: 0,
-            at_once: 0,
-            later: 0,
-            longest: 0,
-        }
-    }
-
-    /// After a row on the resource, where the last change of it before is known.
-    pub(crate) fn note(&mut self, row: Row, last: Option<Numbered>)
+    /// After a row on the resource, before which this was its last change, and after which so many
+    /// are in its queue.
+    pub(crate) fn note(&mut self, row: Row, last: Option<Numbered>, queued: usize)
         ensures free { self.new.free ≡ one_if self.old.free (is_entry row.kind) }
         ensures joined { self.new.joined ≡ one_if self.old.joined (is_queue row.kind) }
         ensures at_once { self.new.at_once ≡ one_if self.old.at_once (is_grant row.kind && is_in_tick row.tick last) }
         ensures later { self.new.later ≡ one_if self.old.later (is_grant row.kind && not (is_in_tick row.tick last)) }
-        ensures longest { self.new.longest ≡ self.old.longest }
+        ensures longest { self.new.longest ≡ max self.old.longest queued }
     {
         let granted = matches!(row.kind, Kind::Grant);
         let at_once = is_in_tick(row.tick, last);
@@ -96,6 +94,7 @@ impl ResourceCounts {
         self.joined = one_if(self.joined, matches!(row.kind, Kind::Queue));
         self.at_once = one_if(self.at_once, granted && at_once);
         self.later = one_if(self.later, granted && !at_once);
+        self.longest = self.longest.max(queued);
     }
 }
 
@@ -118,70 +117,36 @@ pub(crate) fn is_job_of(plan: &Plan, job: JobId) -> bool
     job.task.0 < plan.tasks() && job.k < plan.jobs(job.task)
 }
 
-// Whether a row of this kind does the last unit of the job, which had done this many before.
-fn ends(plan: &Plan, kind: Kind, before: u32, job: JobId) -> bool
-    requires { job.task.0 < length plan.now.tasks }
-    ensures { result ≡ ends plan.now kind before job }
-{
-    match kind {
-        Kind::Queue | Kind::Spin => false,
-        _ => u64::from(before) + 1 == u64::from(plan.units(job.task)),
-    }
-}
-
-// Whether the row does the last unit of its job.
-fn finishes(plan: &Plan, state: CoreState, row: Row) -> bool
-    ensures { ForSome row.job (λ j. j.task.0 < length plan.now.tasks) → result ≡ finishes_from plan.now state row.kind row.job }
-{
-    match row.job {
-        Some(job) if job.task.0 < plan.tasks() => ends(plan, row.kind, units_done(state, job), job),
-        _ => false,
-    }
-}
-
-// Whether the tick ends after the absolute deadline of the job.
-fn is_past(plan: &Plan, tick: u32, job: Option<JobId>) -> bool
-    ensures { ForSome job (λ j. is_job_of plan.now j ≡ true) → result ≡ is_past plan.now tick job }
+// Whether the job does its last unit, which is its next one, in a row of this kind.
+fn finishes(plan: &Plan, state: CoreState, kind: Kind, job: Option<JobId>) -> bool
+    ensures { ForSome job (λ j. j.task.0 < length plan.now.tasks) → result ≡ (not (is_waiting kind) && option_map_or (λ j. units_done state j + 1 == length (units plan.now j)) job false) }
 {
     match job {
-        Some(known) if is_job_of(plan, known) => {
-            plan.job_key(known).deadline < u64::from(tick) + 1
+        Some(job) if job.task.0 < plan.tasks() && !matches!(kind, Kind::Queue | Kind::Spin) => {
+            u64::from(units_done(state, job)) + 1 == u64::from(plan.units(job.task))
         }
         _ => false,
     }
 }
 
-// Whether the tick ends at the absolute deadline of the job.
-fn is_at(plan: &Plan, tick: u32, job: Option<JobId>) -> bool
-    ensures { ForSome job (λ j. is_job_of plan.now j ≡ true) → result ≡ is_at plan.now tick job }
+// The absolute deadline of a job.
+fn deadline_of(plan: &Plan, job: Option<JobId>) -> Option<u64>
+    ensures { ForSome job (λ j. is_job_of plan.now j ≡ true) → result ≡ option_map (λ j. (key plan.now j).deadline) job }
 {
     match job {
-        Some(known) if is_job_of(plan, known) => {
-            plan.job_key(known).deadline == u64::from(tick) + 1
-        }
-        _ => false,
+        Some(known) if is_job_of(plan, known) => Some(plan.job_key(known).deadline),
+        _ => None,
     }
 }
 
-// Whether the level of the head isn't above the ceiling.
-fn is_kept(plan: &Plan, levels: &Levels<'_>, state: CoreState) -> bool
-    requires levels { levels.now ≡ plan.now }
-    ensures { ForSome state.head (λ h. h.task.0 < length plan.now.tasks) → result ≡ is_kept plan.now state.ceiling state.head }
+// The preemption level of a job.
+fn level_of(plan: &Plan, levels: &Levels<'_>, job: Option<JobId>) -> Option<u64>
+    requires { levels.now ≡ plan.now }
+    ensures { ForSome job (λ j. j.task.0 < length plan.now.tasks) → result ≡ option_map (λ j. level plan.now j.task.0) job }
 {
-    match state.head {
-        Some(head) if head.task.0 < plan.tasks() => levels.level(head.task) <= state.ceiling,
-        _ => false,
-    }
-}
-
-// Whether the level of the head is equal to the ceiling.
-fn is_met(plan: &Plan, levels: &Levels<'_>, state: CoreState) -> bool
-    requires levels { levels.now ≡ plan.now }
-    ensures { ForSome state.head (λ h. h.task.0 < length plan.now.tasks) → result ≡ is_met plan.now state.ceiling state.head }
-{
-    match state.head {
-        Some(head) if head.task.0 < plan.tasks() => levels.level(head.task) == state.ceiling,
-        _ => false,
+    match job {
+        Some(job) if job.task.0 < plan.tasks() => Some(u64::from(levels.level(job.task))),
+        _ => None,
     }
 }
 
@@ -196,23 +161,8 @@ fn is_other(running: Option<JobId>, job: Option<JobId>) -> bool
 }
 
 impl TurnCounts {
-    /// Before the first row.
-    pub(crate) fn new() -> TurnCounts
-        ensures { result ≡ record { finished = 0; late = 0; at_deadline = 0; kept = 0; at_ceiling = 0; preempted = 0; nested = 0 } }
-    {
-        TurnCounts {
-            finished: 0,
-            late: 0,
-            at_deadline: 0,
-            kept: 0,
-            at_ceiling: 0,
-            preempted: 0,
-            nested: 0,
-        }
-    }
-
-    /// After a legal row, where the state of its core before the row is known, and whether the row opens a critical section
-    /// inside another.
+    /// After a legal row, where the state of its core before the row is known, and whether the row
+    /// opens a critical section inside another.
     pub(crate) fn note(
         &mut self,
         plan: &Plan,
@@ -225,18 +175,19 @@ impl TurnCounts {
         requires accepted { IsPlan plan.now }
         ensures { (rows : List TraceRow) → IsRunStart plan.now (rows ++ row ∷ []) → IsCoreState plan.now row.core.0 row.tick rows state → nested ≡ nests plan.now rows row → AreTurnCounts plan.now rows self.old → AreTurnCounts plan.now (rows ++ row ∷ []) self.new }
     {
-        let finished = finishes(plan, state, row);
-        let late = both(finished, is_past(plan, row.tick, row.job));
-        let at_deadline = both(finished, is_at(plan, row.tick, row.job));
-        let kept = is_kept(plan, levels, state);
-        let at_ceiling = is_met(plan, levels, state);
-        let preempted = is_other(state.running, row.job);
+        let deadline = deadline_of(plan, row.job);
+        let level = level_of(plan, levels, state.head);
+        let finished = finishes(plan, state, row.kind, row.job);
         self.finished = one_if(self.finished, finished);
-        self.late = one_if(self.late, late);
+        self.late = one_if(
+            self.late,
+            both(finished, is_at_most(deadline, u64::from(row.tick))),
+        );
+        let at_deadline = both(finished, is_at(deadline, u64::from(row.tick) + 1));
         self.at_deadline = one_if(self.at_deadline, at_deadline);
-        self.kept = one_if(self.kept, kept);
-        self.at_ceiling = one_if(self.at_ceiling, at_ceiling);
-        self.preempted = one_if(self.preempted, preempted);
+        self.kept = one_if(self.kept, is_at_most(level, u64::from(state.ceiling)));
+        self.at_ceiling = one_if(self.at_ceiling, is_at(level, u64::from(state.ceiling)));
+        self.preempted = one_if(self.preempted, is_other(state.running, row.job));
         self.nested = one_if(self.nested, nested);
     }
 }

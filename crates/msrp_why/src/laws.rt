@@ -5,7 +5,8 @@ ghost use Rattle.msrp_plan.specs.declared.ids.JobId.{JobId};
 ghost use Rattle.msrp_plan.specs.declared.rows.Row.{Row};
 ghost use Rattle.msrp_why.specs.NumberedRows.{IsLockBy, job_of, last_change, queue_rows};
 
-/// Who stands in a queue by the rows that are noted is the queue of the policy, in its order, whatever the rows are.
+/// Who stands in a queue by the rows that are noted is the queue of the policy, in its order,
+/// whatever the rows are.
 pub fn queue_is_fifo()
     ensures { (g : ℕ) (rows : List Row) → map job_of (queue_rows g rows) ≡ map (λ j. Some j) (fifo g rows) }
 {}
@@ -15,7 +16,8 @@ pub fn holder_locked_last()
     ensures { (plan : PlanModel) (rows : List Row) (g : ℕ) (j : JobId) → IsPlan plan → is_global plan g ≡ false → IsRunStart plan rows → holds plan rows g j ≡ true → IsSomeAnd (last_change g rows) (IsLockBy j) }
 {}
 
-/// The job that holds a global resource is that of the first row that is noted of its queue: since that row it awaited the resource or held it.
+/// The job that holds a global resource is that of the first row that is noted of its queue: since
+/// that row it awaited the resource or held it.
 pub fn holder_is_first()
     ensures { (plan : PlanModel) (rows : List Row) (g : ℕ) (j : JobId) → IsPlan plan → is_global plan g ≡ true → IsRunStart plan rows → holds plan rows g j ≡ true → option_map job_of (slice_get (queue_rows g rows) 0) ≡ Some (Some j) }
 {}

@@ -1,8 +1,9 @@
-//! Why a row of a trace is refused: the row, the rule, the row expected in its place, and the facts that decide it.
+//! Why a row of a trace is refused: the row, the rule, the row expected in its place, and the facts
+//! that decide it.
 //!
-//! [`Notes`] are kept row by row while an auditor judges a trace; [`cause_of`] makes the cause of a fault of them. What a
-//! cause holds is proved. Its words ([`Why`], [`Missing`], [`Exercise`], [`RefusedRecord`]) are tested.
-//! [`laws`] are theorems about what is noted.
+//! [`Notes`] are kept row by row while an auditor judges a trace; [`cause_of`] makes the cause of a
+//! fault of them. What a cause holds is proved. Its words ([`Why`], [`Missing`], [`Exercise`],
+//! [`RefusedRecord`]) are tested. [`laws`] are theorems about what is noted.
 #![tactic(auto)]
 
 mod causes;

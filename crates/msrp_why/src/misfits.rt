@@ -8,8 +8,8 @@ use msrp_text::fields::{has_word, name_at, number_at, number_of};
 use msrp_trace::TraceFault;
 use std::fmt::{self, Formatter, Write};
 
-/// A refused record of a trace, in words: the code and the number of the record, the field that is wrong and what it must be, and the
-/// first fields of the record.
+/// A refused record of a trace, in words: the code and the number of the record, the field that is
+/// wrong and what it must be, and the first fields of the record.
 #[derive(Clone, Copy)]
 pub struct RefusedRecord<'a> {
     pub plan: &'a Plan,
@@ -22,24 +22,21 @@ pub struct RefusedRecord<'a> {
     pub row: &'a ByteRecord,
 }
 
-// What is wrong with a record, in words. A number in braces stands for that field, counted from 0; another word for what the plan allows.
+// What is wrong with a record, in words. A number in braces stands for that field, counted from 0;
+// another word for what the plan allows.
 impl RefusedRecord<'_> {
     fn has(&self, i: usize, word: &[u8]) -> bool {
         has_word(self.row, i, word)
     }
 
-    fn is_none_at(&self, i: usize) -> bool {
-        self.has(i, b"-")
-    }
-
     // R1
     fn head(&self) -> &'static str {
         if self.row.len() == 0 {
-            "the trace is empty; its first record must be {head}"
+            "the trace is empty; its first record must be msrp-trace,1,{cores},{ticks} or msrp-trace,2,{cores},{ticks}"
         } else if self.has(0, b"msrp") {
             "this is a plan; give the plan first, then the trace"
         } else if !self.has(0, b"msrp-trace") || self.row.len() != 4 {
-            "the first record must be {head}"
+            "the first record must be msrp-trace,1,{cores},{ticks} or msrp-trace,2,{cores},{ticks}"
         } else if !self.has(1, b"1") && !self.has(1, b"2") {
             "{1}unknown trace version; must be 1 or 2"
         } else if number_at(self.row, 2) != Some(self.plan.cores()) {
@@ -53,7 +50,7 @@ impl RefusedRecord<'_> {
     fn number(&self) -> &'static str {
         if number_at(self.row, 0).is_none() || number_at(self.row, 1).is_none() {
             "{odd}not a whole number: no sign, decimal point or leading zero, at most 9 digits"
-        } else if !self.is_none_at(4) && number_at(self.row, 4).is_none() {
+        } else if !self.has(4, b"-") && number_at(self.row, 4).is_none() {
             "{4}the job must be - or a whole number; jobs are numbered from 0"
         } else {
             "{6}the queue length must be - or a whole number"
@@ -62,7 +59,7 @@ impl RefusedRecord<'_> {
 
     // R5
     fn name(&self) -> &'static str {
-        if self.is_none_at(3) || self.plan.task_of(name_at(self.row, 3)).is_some() {
+        if self.has(3, b"-") || self.plan.task_of(name_at(self.row, 3)).is_some() {
             "{5}the plan has no resource of this name; its resources:{resources}"
         } else {
             "{3}the plan has no task of this name; its tasks:{tasks}"
@@ -71,9 +68,9 @@ impl RefusedRecord<'_> {
 
     // R6
     fn shape(&self) -> &'static str {
-        let has_job = !self.is_none_at(3) && !self.is_none_at(4);
-        let has_res = !self.is_none_at(5);
-        let has_any = !self.is_none_at(3) || !self.is_none_at(4) || has_res;
+        let has_job = !self.has(3, b"-") && !self.has(4, b"-");
+        let has_res = !self.has(5, b"-");
+        let has_any = !self.has(3, b"-") || !self.has(4, b"-") || has_res;
         match name_at(self.row, 2) {
             "idle" if has_any => "{filled}an idle row has - as task, job and resource",
             "run" if !has_job || has_res =>
@@ -102,54 +99,37 @@ impl RefusedRecord<'_> {
 
     // The field that is wrong, in front of what is said of it.
     fn write_field<W: Write>(&self, f: &mut Formatter<W>, i: usize) -> fmt::Result {
-        write!(
-            f,
-            "field {} [{}]: ",
-            i.saturating_add(1),
-            Shown(field(self.row, i))
-        )
+        let shown = Shown(field(self.row, i));
+        write!(f, "field {} [{shown}]: ", i.saturating_add(1))
     }
 
     // The place from 3 to 5 that is `-`, or isn't: the first, else the last.
     fn part(&self, is_none: bool) -> usize {
-        (3..5).find(|i| self.is_none_at(*i) == is_none).unwrap_or(5)
-    }
-
-    fn write_tasks<W: Write>(&self, f: &mut Formatter<W>) -> fmt::Result {
-        for task in 0..self.plan.tasks() {
-            write!(f, " {}", task_name(self.plan, TaskId(task)))?;
-        }
-        Ok(())
-    }
-
-    fn write_resources<W: Write>(&self, f: &mut Formatter<W>) -> fmt::Result {
-        for res in 0..self.plan.resources() {
-            write!(f, " {}", res_name(self.plan, ResId(res)))?;
-        }
-        Ok(())
+        (3..5).find(|i| self.has(*i, b"-") == is_none).unwrap_or(5)
     }
 
     // What is in a hole.
     fn fill<W: Write>(&self, f: &mut Formatter<W>, hole: &str) -> fmt::Result {
-        let (cores, ticks) = (self.plan.cores(), self.plan.ticks());
+        let plan = self.plan;
         match hole {
-            "head" => {
-                write!(
-                    f,
-                    "msrp-trace,1,{cores},{ticks} or msrp-trace,2,{cores},{ticks}"
-                )
+            "cores" => write!(f, "{}", plan.cores()),
+            "ticks" => write!(f, "{}", plan.ticks()),
+            "tasks" => {
+                for task in 0..plan.tasks() {
+                    write!(f, " {}", task_name(plan, TaskId(task)))?;
+                }
+                Ok(())
             }
-            "cores" => write!(f, "{cores}"),
-            "ticks" => write!(f, "{ticks}"),
-            "tasks" => self.write_tasks(f),
-            "resources" => self.write_resources(f),
+            "resources" => {
+                for res in 0..plan.resources() {
+                    write!(f, " {}", res_name(plan, ResId(res)))?;
+                }
+                Ok(())
+            }
             "odd" => self.write_field(f, usize::from(number_at(self.row, 0).is_some())),
             "empty" => self.write_field(f, self.part(true)),
             "filled" => self.write_field(f, self.part(false)),
-            digit => match number_of(digit.as_bytes()) {
-                Some(i) => self.write_field(f, i as usize),
-                None => Ok(()),
-            },
+            digit => self.write_field(f, number_of(digit.as_bytes()).unwrap_or(0) as usize),
         }
     }
 }

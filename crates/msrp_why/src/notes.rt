@@ -1,10 +1,12 @@
-//! What is noted as rows are judged: of each resource the requests that are not released and the last change, and what the turns
-//! met. The memory grows with the plan, and not with the rows.
-ghost use Rattle.std.specs.Prelude.{◌≡◌, ◌<◌, ◌++◌, ◌∷◌};
-ghost use Rattle.msrp_plan.specs.Common.{[], List, IfOk, length, true, is_request, IsRunStart, PlanModel, IsPlan, list_any};
+//! What is noted as rows are judged: of each resource the requests that are not released and the
+//! last change, and what the turns met. The memory grows with the plan, and not with the rows.
+ghost use Rattle.std.specs.Prelude.{◌≡◌, ◌<◌, ◌+◌, ◌&&◌, ◌++◌, ◌∷◌, if◌then◌else◌};
+ghost use Rattle.msrp_plan.specs.Common.{[], ℕ, List, Some, IfOk, drop, false, length, true, is_on, is_release, is_request, IsRunStart, PlanModel, IsPlan, list_any};
+ghost use Rattle.std.specs.Option.{option_map_or};
 ghost use Rattle.msrp_plan.specs.declared.rows.Row.{Row as TraceRow};
-ghost use Rattle.msrp_why.specs.Inside.{AreEmptyOf, IsCountStep, last_with, queue_with};
-ghost use Rattle.msrp_why.specs.Noted.{AreNoted, AreRowsNoted, IsStateAfter, is_by, is_locker, is_opening, is_user, nests};
+ghost use Rattle.msrp_why.specs.NumberedRows.{is_change};
+ghost use Rattle.msrp_core.specs.CoreStates.{IsStateAfter};
+ghost use Rattle.msrp_why.specs.Noted.{AreNoted, AreResourcesNoted, IsNoted, is_by, is_locker, is_opening, is_user};
 
 use crate::exercise::{ResourceCounts, TurnCounts};
 use arrayvec::ArrayVec;
@@ -45,44 +47,58 @@ impl Numbered {
     fn is_of(&self, job: JobId) -> bool
         ensures { result ≡ is_by job self.now }
     {
-        match self.row.job {
-            Some(own) => own == job,
-            None => false,
-        }
+        self.row.job.is_some_and(|own| own == job)
     }
 }
+
+/// The requests of a resource.
+type Queue = ArrayVec<Numbered, MOST_QUEUED>;
 
 /// What is noted of a resource.
 #[derive(Debug, Drop)]
 pub struct ResourceNotes {
     /// The requests that are not released, in order.
-    pub queue: ArrayVec<Numbered, MOST_QUEUED>,
+    pub queue: Queue,
     /// The last row that locks, unlocks or releases the resource.
     pub last: Option<Numbered>,
     /// What the rows on it met.
     pub counts: ResourceCounts,
 }
 
+// The queue after a row on the resource.
+fn requeue(queue: &mut Queue, row: Numbered)
+    ensures { (is_request row.row.kind ≡ true → length queue.old.items < MOST_QUEUED) → queue.new.items ≡ if is_request row.row.kind then queue.old.items ++ row ∷ [] else if is_release row.row.kind then drop 1 queue.old.items else queue.old.items }
+{
+    match row.row.kind {
+        Kind::Take | Kind::Queue => {
+            let _fits = queue.try_push(row);
+        }
+        Kind::Release => {
+            let _first = queue.pop_at(0);
+        }
+        _ => {}
+    }
+}
+
+// The last change after a row on the resource.
+fn last_after(last: Option<Numbered>, row: Numbered) -> Option<Numbered>
+    ensures { result ≡ if is_change row.row.kind then Some row else last }
+{
+    match row.row.kind {
+        Kind::Lock | Kind::Unlock | Kind::Release => Some(row),
+        _ => last,
+    }
+}
+
 impl ResourceNotes {
     // The notes after a row on the resource.
     fn note(&mut self, row: Numbered)
-        ensures queue { (is_request row.row.kind ≡ true → length self.old.queue.items < MOST_QUEUED) → self.new.queue.items ≡ queue_with row.row.kind self.old.queue.items row }
-        ensures last { self.new.last ≡ last_with row.row.kind self.old.last row }
-        ensures counts { IsCountStep row.row self.old self.new }
+        ensures { (plan : PlanModel) (rows : List TraceRow) (g : ℕ) → IsPlan plan → IsRunStart plan (rows ++ row.row ∷ []) → is_on g row.row.res ≡ true → row.number ≡ length rows + 1 → IsNoted rows g self.old → IsNoted (rows ++ row.row ∷ []) g self.new }
     {
-        self.counts.note(row.row, self.last);
-        match row.row.kind {
-            Kind::Take | Kind::Queue => {
-                let _fits = self.queue.try_push(row);
-            }
-            Kind::Release => {
-                let _first = self.queue.pop_at(0);
-                self.last = Some(row);
-            }
-            Kind::Lock | Kind::Unlock => self.last = Some(row),
-            Kind::Idle | Kind::Run | Kind::Spin | Kind::Grant => {}
-        }
-        self.counts.longest = self.counts.longest.max(self.queue.len());
+        let before = self.last;
+        requeue(&mut self.queue, row);
+        self.last = last_after(before, row);
+        self.counts.note(row.row, before, self.queue.len());
     }
 
     // Whether the job locked the resource, and hasn't unlocked it.
@@ -122,16 +138,9 @@ pub struct Notes {
     pub resources: Vec<ResourceNotes>,
 }
 
-// Whether a row of this kind locks or requests a resource.
-fn is_opening(kind: Kind) -> bool
-    ensures { result ≡ is_opening kind }
-{
-    matches!(kind, Kind::Lock | Kind::Take | Kind::Queue)
-}
-
 // What is noted of each resource before the first row.
 fn resources_of(alloc: Global, plan: &Plan) -> Result<Vec<ResourceNotes>, Memory>
-    ensures { IfOk result (λ resources. AreEmptyOf plan.now resources.items) }
+    ensures { IfOk result (λ resources. AreResourcesNoted plan.now [] resources.items) }
 {
     let count = plan.resources();
     let mut resources = Vec::with_capacity(alloc, count as usize)?;
@@ -139,10 +148,21 @@ fn resources_of(alloc: Global, plan: &Plan) -> Result<Vec<ResourceNotes>, Memory
         resources.push_reserved(ResourceNotes {
             queue: ArrayVec::new(),
             last: None,
-            counts: ResourceCounts::new(),
+            counts: ResourceCounts::default(),
         });
     }
     Ok(resources)
+}
+
+// What is noted of each resource after one row more, which is legal.
+fn note_row(resources: &mut Vec<ResourceNotes>, row: Numbered)
+    ensures { (plan : PlanModel) (rows : List TraceRow) → IsPlan plan → IsRunStart plan (rows ++ row.row ∷ []) → row.number ≡ length rows + 1 → AreResourcesNoted plan rows resources.old.items → AreResourcesNoted plan (rows ++ row.row ∷ []) resources.new.items }
+{
+    if let Some(res) = row.row.res {
+        if (res.0 as usize) < resources.len() {
+            resources[res.0 as usize].note(row);
+        }
+    }
 }
 
 impl Notes {
@@ -153,7 +173,7 @@ impl Notes {
         Ok(Notes {
             rows: 0,
             last: None,
-            turns: TurnCounts::new(),
+            turns: TurnCounts::default(),
             resources: resources_of(alloc, plan)?,
         })
     }
@@ -167,31 +187,14 @@ impl Notes {
 
     // Whether the row opens a critical section inside another.
     fn nests(&self, row: Row) -> bool
-        ensures { (plan : PlanModel) (rows : List TraceRow) → AreRowsNoted plan rows self.now → result ≡ nests plan rows row }
+        ensures { result ≡ (is_opening row.kind && option_map_or (λ j. list_any (λ notes. is_user j notes.last notes.queue.items) self.now.resources.items) row.job false) }
     {
-        match row.job {
-            Some(job) => is_opening(row.kind) && self.is_inside(job),
-            None => false,
-        }
+        matches!(row.kind, Kind::Lock | Kind::Take | Kind::Queue)
+            && row.job.is_some_and(|job| self.is_inside(job))
     }
 
-    // What is noted of the resources after one row more, which is legal.
-    fn note_row(&mut self, plan: &Plan, row: Row)
-        requires { IsPlan plan.now }
-        ensures turns { self.new.turns ≡ self.old.turns }
-        ensures rows { (rows : List TraceRow) → IsRunStart plan.now (rows ++ row ∷ []) → AreRowsNoted plan.now rows self.old → AreRowsNoted plan.now (rows ++ row ∷ []) self.new }
-    {
-        let number = self.rows.saturating_add(1);
-        self.rows = number;
-        self.last = Some(Numbered { number, row });
-        if let Some(res) = row.res {
-            if (res.0 as usize) < self.resources.len() {
-                self.resources[res.0 as usize].note(Numbered { number, row });
-            }
-        }
-    }
-
-    /// The notes after one row more, which is legal, where the state of its core before it is known.
+    /// The notes after one row more, which is legal, where the state of its core before it is
+    /// known.
     pub fn note(&mut self, plan: &Plan, levels: &Levels<'_>, state: Option<CoreState>, row: Row)
         requires { levels.now ≡ plan.now }
         ensures { (rows : List TraceRow) → IsRunStart plan.now (rows ++ row ∷ []) → IsStateAfter plan.now rows row.core.0 state → AreNoted plan.now rows self.old → AreNoted plan.now (rows ++ row ∷ []) self.new }
@@ -201,7 +204,10 @@ impl Notes {
         if let Some(state) = state {
             let nested = self.nests(row);
             self.turns.note(plan, levels, state, nested, row);
-            self.note_row(plan, row);
+            let number = self.rows.saturating_add(1);
+            self.rows = number;
+            self.last = Some(Numbered { number, row });
+            note_row(&mut self.resources, Numbered { number, row });
         }
     }
 }

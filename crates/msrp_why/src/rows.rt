@@ -23,13 +23,9 @@ pub(crate) struct Size<'a>(pub &'a Plan);
 
 impl fmt::Display for Size<'_> {
     fn fmt<W: Write>(&self, f: &mut Formatter<W>) -> fmt::Result {
-        let (cores, ticks) = (u64::from(self.0.cores()), u64::from(self.0.ticks()));
-        let rows = Count(u128::from(cores * ticks), "row");
-        let (cores, ticks) = (
-            Count(u128::from(cores), "core"),
-            Count(u128::from(ticks), "tick"),
-        );
-        write!(f, "{rows} ({cores}, {ticks})")
+        let (cores, ticks) = (u128::from(self.0.cores()), u128::from(self.0.ticks()));
+        let (rows, cores) = (Count(cores * ticks, "row"), Count(cores, "core"));
+        write!(f, "{rows} ({cores}, {})", Count(ticks, "tick"))
     }
 }
 
@@ -55,10 +51,7 @@ impl fmt::Display for RowText<'_> {
             Some(job) => write!(f, "{},", JobText(plan, job))?,
             None => f.write_str("-,-,")?,
         }
-        match row.res {
-            Some(res) => f.write_str(res_name(plan, res))?,
-            None => f.write_str("-")?,
-        }
+        f.write_str(row.res.map_or("-", |res| res_name(plan, res)))?;
         match (version, row.ahead) {
             (TextVersion::V2, Some(ahead)) => write!(f, ",{ahead}"),
             (TextVersion::V2, None) => f.write_str(",-"),

@@ -3,7 +3,7 @@ ghost use Rattle.std.specs.Prelude.{◌≡◌};
 
 use crate::causes::Cause;
 use crate::exercise::{is_job_of, units_done};
-use crate::notes::{Notes, Numbered, ResourceNotes};
+use crate::notes::{Notes, Numbered};
 use crate::rows::{JobText, Line, RowLine, RowText, Size};
 use msrp_advice::{Count, res_name};
 use msrp_levels::Levels;
@@ -23,8 +23,8 @@ fn sentence(rule: Rule) -> &'static str {
     }
 }
 
-/// Why a row is refused, in words: which row it is, the rule, what was expected, and the facts that decide it. Rows are shown as in a
-/// trace of this version.
+/// Why a row is refused, in words: which row it is, the rule, what was expected, and the facts that
+/// decide it. Rows are shown as in a trace of this version.
 #[derive(Clone, Copy)]
 pub struct Why<'a> {
     plan: &'a Plan,
@@ -49,10 +49,6 @@ impl<'a> Why<'a> {
             version,
             cause,
         }
-    }
-
-    fn job(&self, job: JobId) -> JobText<'a> {
-        JobText(self.plan, job)
     }
 
     fn line(&self, title: &'a str, row: Option<Numbered>) -> RowLine<'a> {
@@ -96,11 +92,11 @@ impl<'a> Why<'a> {
         match self.cause.row.job {
             Some(JobId { task, .. }) if task.0 < plan.tasks() => {
                 let (name, core) = (plan.task_name(task), plan.core_of(task).0);
-                write!(f, "task {name} is assigned to core {core}")?;
+                write!(f, "task {name} is assigned to core {core} and has ")?;
                 match plan.jobs(task) {
-                    0 => writeln!(f, " and has no job within the plan"),
-                    1 => writeln!(f, " and has one job within the plan: job 0"),
-                    n => writeln!(f, " and has {n} jobs within the plan: 0 to {}", n - 1),
+                    0 => writeln!(f, "no job within the plan"),
+                    1 => writeln!(f, "one job within the plan: job 0"),
+                    n => writeln!(f, "{n} jobs within the plan: 0 to {}", n - 1),
                 }
             }
             _ => Ok(()),
@@ -116,8 +112,8 @@ impl<'a> Why<'a> {
     ) -> fmt::Result {
         match job {
             Some(job) if is_job_of(self.plan, job) => {
+                let (text, level) = (JobText(self.plan, job), self.levels.level(job.task));
                 let key = self.plan.job_key(job);
-                let (text, level) = (self.job(job), self.levels.level(job.task));
                 write!(f, "{title}: {text} (preemption level {level}, ")?;
                 write!(f, "released at tick {}, ", key.release)?;
                 writeln!(f, "absolute deadline {})", key.deadline)
@@ -158,18 +154,18 @@ impl<'a> Why<'a> {
     fn write_uses<W: Write>(&self, f: &mut Formatter<W>) -> fmt::Result {
         let numbers = 0..self.plan.resources();
         for (res, notes) in numbers.zip(self.cause.notes.resources.iter()) {
-            match notes.last {
-                Some(last) if last.row.kind == Kind::Lock => self.write_use(f, ResId(res), last)?,
-                _ => {}
-            }
-            for request in notes.queue.iter() {
-                self.write_use(f, ResId(res), *request)?;
+            let lock = notes.last.filter(|last| last.row.kind == Kind::Lock);
+            for since in lock.iter().chain(notes.queue.iter()) {
+                if since.row.core == self.cause.row.core {
+                    self.write_use(f, ResId(res), *since)?;
+                }
             }
         }
         Ok(())
     }
 
-    // A resource that a job holds or awaits since a row, if it is one of the core, and what that does to the core's ceiling.
+    // A resource of the core that a job holds or awaits since a row, and what that does to the
+    // core's ceiling.
     fn write_use<W: Write>(
         &self,
         f: &mut Formatter<W>,
@@ -177,11 +173,8 @@ impl<'a> Why<'a> {
         since: Numbered,
     ) -> fmt::Result {
         let (name, row) = (res_name(self.plan, res), since.row);
-        if row.core != self.cause.row.core {
-            return Ok(());
-        }
         if let Some(job) = row.job {
-            write!(f, "{} ", self.job(job))?;
+            write!(f, "{} ", JobText(self.plan, job))?;
         }
         let (verb, link) = match row.kind {
             Kind::Queue if self.awaits(res) => ("has been waiting for", " since"),
@@ -204,29 +197,25 @@ impl<'a> Why<'a> {
 
     // Whether the core's job waits for the resource: its expected row is a poll.
     fn awaits(&self, res: ResId) -> bool {
-        match self.cause.expected {
-            Some(row) => row.res == Some(res) && matches!(row.kind, Kind::Spin | Kind::Grant),
-            None => false,
-        }
+        self.cause.expected.is_some_and(|row| {
+            row.res == Some(res) && matches!(row.kind, Kind::Spin | Kind::Grant)
+        })
     }
 
     // A5: the queue, in order, and the last release.
-    fn write_queue<W: Write>(
-        &self,
-        f: &mut Formatter<W>,
-        name: &str,
-        notes: &ResourceNotes,
-    ) -> fmt::Result {
-        let is_empty = notes.queue.is_empty();
-        let order = if is_empty {
-            ": empty"
-        } else {
-            ", first to last:"
+    fn write_queue<W: Write>(&self, f: &mut Formatter<W>, res: ResId) -> fmt::Result {
+        let name = res_name(self.plan, res);
+        let Some(notes) = self.cause.notes.resources.get(res.0 as usize) else {
+            return Ok(());
+        };
+        let order = match notes.queue.len() {
+            0 => ": empty",
+            _ => ", first to last:",
         };
         writeln!(f, "queue of {name} before this row{order}")?;
         for request in notes.queue.iter() {
             if let Some(job) = request.row.job {
-                write!(f, "  {} ", self.job(job))?;
+                write!(f, "  {} ", JobText(self.plan, job))?;
             }
             write!(f, "{}", self.line("since", Some(*request)))?;
         }
@@ -252,10 +241,7 @@ impl<'a> Why<'a> {
             (Rule::A2, _) => self.write_owner(f),
             (Rule::A3, _) => self.write_choice(f),
             (Rule::A4, _) => self.write_progress(f),
-            (Rule::A5, Some(res)) => match cause.notes.resources.get(res.0 as usize) {
-                Some(notes) => self.write_queue(f, res_name(plan, res), notes),
-                None => Ok(()),
-            },
+            (Rule::A5, Some(res)) => self.write_queue(f, res),
             (Rule::A5, None) => Ok(()),
             (Rule::A6 | Rule::A7, _) => {
                 writeln!(f, "expected: the end of the trace after {}", Size(plan))?;
@@ -285,7 +271,8 @@ impl fmt::Display for Why<'_> {
     }
 }
 
-/// That rows are missing, in words: how many are expected and found, and the last of them. Rows are shown as in a trace of this version.
+/// That rows are missing, in words: how many are expected and found, and the last of them. Rows are
+/// shown as in a trace of this version.
 #[derive(Clone, Copy)]
 pub struct Missing<'a> {
     pub plan: &'a Plan,
@@ -296,10 +283,9 @@ pub struct Missing<'a> {
 impl fmt::Display for Missing<'_> {
     fn fmt<W: Write>(&self, f: &mut Formatter<W>) -> fmt::Result {
         let (plan, notes) = (self.plan, self.notes);
-        let (expected, found) = (Size(plan), Count(u128::from(notes.rows), "row"));
-        writeln!(f, "{}", sentence(Rule::A6))?;
-        writeln!(f, "expected: {expected}\nfound: {found}")?;
+        let (size, found) = (Size(plan), Count(u128::from(notes.rows), "row"));
         let last = RowLine("last row:", plan, self.version, notes.last);
-        write!(f, "{last}")
+        writeln!(f, "{}", sentence(Rule::A6))?;
+        write!(f, "expected: {size}\nfound: {found}\n{last}")
     }
 }

@@ -1,7 +1,12 @@
-use Rattle.msrp_plan.proofs.Common.{ℕ}
-use Rattle.msrp_picture.specs.Shapes.{core_blocks}
+use Rattle.std.proofs.Common.{◌++◌, ◌∙◌, filter_map}
+use Rattle.msrp_plan.proofs.Common.{ℕ, List, ap}
+use Rattle.msrp_picture.specs.Types.{Row}
+use Rattle.msrp_picture.specs.Blocks.{merged}
+use Rattle.msrp_picture.specs.Lanes.{ceiling_tick}
 use Rattle.msrp_picture.proofs.Growing.{grows, grows-each}
 use Rattle.msrp_picture.proofs.drawing.push_cores.Goals as goal
 
 pub loop-core-preserved : goal.loop-core-preserved
-loop-core-preserved c = grows-each (λ (n : ℕ). core_blocks c.args.scene.now.plan.now c.args.scene.now.rows.now c.args.scene.now.later.now (record { 0 = n })) c.loop-core.core c.args.blocks.now.items _ _ c.loop-core.invariant (grows _ _ _ _ _ c.in_ok-push_rows.ensures c.in_ok-push_ceilings.ensures)
+loop-core-preserved c =
+    let all = ap (λ (rows : List (Row × ℕ)). c.push_rows.new.blocks.items ++ merged (filter_map (ceiling_tick (record { 0 = c.loop-core.core })) rows)) (c.deref.ensures.value ∙ c.in_ok-ceilings.ensures) in
+    grows-each _ c.loop-core.core c.args.blocks.now.items _ _ c.loop-core.invariant (grows _ _ _ _ _ c.in_ok-push_rows.ensures (c.in_ok-push_ceilings.ensures ∙ all))

@@ -1,5 +1,5 @@
 -- The rows of a job among those of its task.
-use Rattle.msrp_plan.proofs.Common.{fold, not, ℕ, Bool, true, false, List, Option, Some, None, refl, ap, cond, nat_eq, all_of, filter_within, done, is_finished, is_job, is_row_of, is_waiting, release, task_of}
+use Rattle.msrp_plan.proofs.Common.{fold, not, sym, eq-eqb, ne_eqb, ℕ, Bool, true, false, List, Option, Some, None, refl, ap, cond, nat_eq, all_of, filter_within, done, is_finished, is_job, is_row_of, is_waiting, release, task_of}
 use Rattle.std.proofs.Common.{◌&&◌, ◌==◌, ◌+◌, ◌≡◌, ◌∙◌}
 use Rattle.msrp_plan.proofs.Lists.Filters.{count_within}
 use Rattle.msrp_picture.specs.Types.{JobId, Life, Row}
@@ -38,12 +38,22 @@ life j r d f e = record { job = j; release = r; deadline = r + d; is_finished = 
 same_life : (j : JobId) (r s d t e u : ℕ) (f g : Bool) → r ≡ s → d ≡ t → f ≡ g → e ≡ u → life j r d f e ≡ life j s t g u
 same_life j r s d t e u f g release due finished end = cc
 
-pub returns : goal.returns
-returns c =
+pub returns-then-is_finished : goal.returns-then-is_finished
+returns-then-is_finished c =
     let plan = c.args.scene.now.plan.now in
     let rows = c.args.scene.now.rows.now in
     let own = c.args.own.now in
     let j = c.args.job in
     let finished = ap (λ (n : ℕ). nat_eq n c.units.result) (c.done.ensures ∙ done_same j rows own c.requires.rows) ∙ ap (λ (n : ℕ). nat_eq (done j rows) n) c.units.ensures in
-    let end = c.end_of-end.ensures ∙ (ap (λ (b : Bool). cond b (after_last j own) (ticks_begun plan rows)) finished ∙ ap (λ (n : ℕ). cond (is_finished plan rows j) n (ticks_begun plan rows)) (last_same j rows own c.requires.rows)) in
+    let end = c.after_last.ensures ∙ last_same j rows own c.requires.rows ∙ ap (λ (b : Bool). cond b (after_last j rows) (ticks_begun plan rows)) (sym (eq-eqb c.done.result c.units.result c.if-is_finished.true) ∙ finished) in
+    same_life j _ (release plan j) _ (task_of plan j).deadline _ _ _ (is_finished plan rows j) c.release-release.ensures.value c.deadline.ensures finished end
+
+pub returns-else-is_finished : goal.returns-else-is_finished
+returns-else-is_finished c =
+    let plan = c.args.scene.now.plan.now in
+    let rows = c.args.scene.now.rows.now in
+    let own = c.args.own.now in
+    let j = c.args.job in
+    let finished = ap (λ (n : ℕ). nat_eq n c.units.result) (c.done.ensures ∙ done_same j rows own c.requires.rows) ∙ ap (λ (n : ℕ). nat_eq (done j rows) n) c.units.ensures in
+    let end = c.ticks_begun.ensures ∙ ap (λ (b : Bool). cond b (after_last j rows) (ticks_begun plan rows)) (sym (ne_eqb c.done.result c.units.result c.if-is_finished.false) ∙ finished) in
     same_life j _ (release plan j) _ (task_of plan j).deadline _ _ _ (is_finished plan rows j) c.release-release.ensures.value c.deadline.ensures finished end

@@ -10,4 +10,4 @@ loop-row-preserved c = λ g before has.
     let rows = c.args.rows.now in
     let r = c.row-item.result in
     let upto : take (i + 1) rows ≡ take i rows ++ r ∷ [] = take_more rows i r (omega arith) ∙ ap (λ x. take i rows ++ x ∷ []) (sym c.row-item.is) in
-    subst (λ (xs : List Row). HasTaken c.take.new.self g xs) (append_assoc before (take i rows) (r ∷ []) ∙ ap (λ xs. before ++ xs) (sym upto)) (c.in_ok-take.ensures g (before ++ take i rows) (c.loop-row.invariant g before has))
+    subst (λ (xs : List Row). HasTaken c.take.new.self g xs) (append_assoc before (take i rows) (r ∷ []) ∙ ap (λ xs. before ++ xs) (sym upto)) (c.in_ok-take.ensures.taken g (before ++ take i rows) (c.loop-row.invariant g before has))

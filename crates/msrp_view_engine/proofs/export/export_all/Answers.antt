@@ -1,5 +1,5 @@
 use Rattle.std.proofs.Common.{◌≡◌}
-use Rattle.msrp_plan.proofs.Common.{rules, Some, Err, sym, subst, some-nothing}
+use Rattle.msrp_plan.proofs.Common.{rules, Some, Err, sym, subst}
 use Rattle.msrp_text.specs.Reading.{csv_records}
 use Rattle.msrp_trace.specs.Reading.{rows_of}
 use Rattle.msrp_trace.specs.Readers.{told_left}
@@ -18,15 +18,3 @@ returns-clause-found g c = λ bytes known.
     let told = rows_of c.args.plan.now (csv_records bytes) in
     let begun = opened g.T.Read.remaining c.args.plan.now (csv_records bytes) c.in_ok-reader.reader (c.in_ok-reader.ensures.opens bytes known) in
     c.export_rows-found.ensures.found told (subst (λ r. told_left g.T.Read.remaining r ≡ Some told) (sym c.new-rows.ensures.rows) begun)
-
-pub returns-clause-wrote : goal.returns-clause-wrote
-returns-clause-wrote g c = c.export_rows-found.ensures.wrote
-
-pub returns-in_err-levels-clause-wrote : goal.returns-in_err-levels-clause-wrote
-returns-in_err-levels-clause-wrote g c = some-nothing g.W.Write.contents c.args.out.now
-
-pub returns-in_err-auditor-clause-wrote : goal.returns-in_err-auditor-clause-wrote
-returns-in_err-auditor-clause-wrote g c = some-nothing g.W.Write.contents c.args.out.now
-
-pub returns-in_err-reader-clause-wrote : goal.returns-in_err-reader-clause-wrote
-returns-in_err-reader-clause-wrote g c = some-nothing g.W.Write.contents c.args.out.now

@@ -25,8 +25,8 @@ pub returns-in-Broken-clause-found : goal.returns-in-Broken-clause-found
 returns-in-Broken-clause-found g c = λ told known.
     let i = c.loop-exporter.invariant in
     let e = c.next_row.ensures in
-    let found = broken-found g.T.Read.remaining _ _ _ i.0 c.next_row.result c.in-Broken.row c.in-Broken.fault told i.1 (record { plan = e.plan; answers = e.gives; judged = e.judged i.0 i.1.fed i.1.fault }) (c.in_ok-row.was ∙ ap (λ x. Ok x) c.in-Broken.is) known in
-    inr (inr (sym (subst (λ (p : PlanModel). finding p told ≡ Ok (Err c.in-Broken.fault)) c.requires.plan found)))
+    let found = broken-found g.T.Read.remaining _ _ _ i.0 c.next_row.result c.in-Broken.row c.in-Broken.broken told i.1 (record { plan = e.plan; answers = e.gives; judged = e.judged i.0 i.1.fed i.1.fault }) (c.in_ok-row.was ∙ ap (λ x. Ok x) c.in-Broken.is) known in
+    inr (inr (sym (subst (λ (p : PlanModel). finding p told ≡ Ok (Err c.in-Broken.broken.fault)) c.requires.plan found)))
 
 pub returns-in-Broken-clause-wrote : goal.returns-in-Broken-clause-wrote
 returns-in-Broken-clause-wrote g c = some-more g.W.Write.contents _ _ _ c.loop-exporter.invariant.2 c.fault.ensures

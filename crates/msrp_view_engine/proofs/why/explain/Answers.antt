@@ -1,12 +1,9 @@
 use Rattle.msrp_text.specs.Reading.{csv_records, plan_of}
 use Rattle.msrp_engine.proofs.Answered.{settled_from_plan}
 use Rattle.msrp_view_engine.specs.Whys.{IsExplainedOf}
-use Rattle.msrp_view_engine.proofs.Explaining.{words-or}
 use Rattle.msrp_view_engine.proofs.why.explain.Goals as goal
 
 pub returns-clause-explained : goal.returns-clause-explained
 returns-clause-explained g c = λ plan_bytes trace_bytes plan trace.
-    let records = csv_records trace_bytes in
-    let words = words-or c.in_ok-plan.plan records c.explain_all-words.result (c.explain_all-words.ensures.explained trace_bytes trace) c.explain_all-words.ensures.fault in
-    settled_from_plan (λ read answer. IsExplainedOf read records answer) c.in_ok-plan.plan (plan_of (csv_records plan_bytes)) c.explain_all-words.result c.settled.result
-    (c.in_ok-plan.ensures.answer plan_bytes plan) c.settled.ensures.same words
+    settled_from_plan (λ read answer. IsExplainedOf read (csv_records trace_bytes) answer) c.in_ok-plan.plan (plan_of (csv_records plan_bytes)) c.explain_all-words.result c.settled.result
+    (c.in_ok-plan.ensures.answer plan_bytes plan) c.settled.ensures.same (c.explain_all-words.ensures.explained trace_bytes trace)

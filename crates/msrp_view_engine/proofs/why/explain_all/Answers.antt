@@ -1,3 +1,6 @@
+use Rattle.std.proofs.Common.{◌≡◌}
+use Rattle.msrp_plan.proofs.Common.{Some, subst, sym}
+use Rattle.msrp_trace.specs.Readers.{told_left}
 use Rattle.msrp_text.specs.Reading.{csv_records}
 use Rattle.msrp_trace.specs.Reading.{rows_of}
 use Rattle.msrp_trace.proofs.ReadThrough.{opened}
@@ -12,5 +15,6 @@ returns-in-Err-clause-explained g c = λ bytes known.
 
 pub returns-clause-explained : goal.returns-clause-explained
 returns-clause-explained g c = λ bytes known.
-    let begun = opened g.T.Read.remaining c.args.plan.now (csv_records bytes) c.in-Ok.rows (c.in-Ok.ensures.opens bytes known) in
-    c.explain_rows-words.ensures.explained (rows_of c.args.plan.now (csv_records bytes)) begun
+    let told = rows_of c.args.plan.now (csv_records bytes) in
+    let begun = opened g.T.Read.remaining c.args.plan.now (csv_records bytes) c.in-Ok.reader (c.in-Ok.ensures.opens bytes known) in
+    c.explain_rows-words.ensures.explained told (subst (λ r. told_left g.T.Read.remaining r ≡ Some told) (sym c.new-rows.ensures.rows) begun)

@@ -8,7 +8,7 @@ returns-in-Ok-clause-explained g c = λ told known.
     let judged = subst (IsJudged c.args.plan.now told) c.in-Ok.is (c.judge_rows.ensures.found told known) in
     judged-explained c.args.plan.now told c.in-Ok.judged c.words_on.result judged c.words_on.ensures.found c.words_on.ensures.memory
 
-pub returns-clause-explained : goal.returns-clause-explained
-returns-clause-explained g c = λ told known.
+pub returns-in-Err-clause-explained : goal.returns-in-Err-clause-explained
+returns-in-Err-clause-explained g c = λ told known.
     let judged = subst (IsJudged c.args.plan.now told) c.in-Err.is (c.judge_rows.ensures.found told known) in
     refused-explained c.args.plan.now told c.in-Err.error c.words_on_refusal.result judged c.words_on_refusal.ensures.found c.words_on_refusal.ensures.words c.words_on_refusal.ensures.fault

@@ -1,5 +1,5 @@
 use Rattle.std.proofs.Common.{◌≡◌, ◌∙◌}
-use Rattle.msrp_plan.proofs.Common.{rules, Err, ap, refl, subst, sym, some-nothing, wrote-some}
+use Rattle.msrp_plan.proofs.Common.{rules, Err, ap, refl, subst, sym}
 use Rattle.msrp_faults.specs.Outcomes.{answered}
 use Rattle.msrp_view_engine.specs.Answers.{BeginsWith}
 use Rattle.msrp_view_engine.proofs.Answering.{err-unread, ok-unread}
@@ -11,9 +11,6 @@ returns-in_err-words-clause-answer g c = λ plan_bytes trace_bytes plan trace.
     let gives : c.from_residual.result ≡ Err c.in_err-words.field-0.0 = search rules in
     err-unread _ _ _ _ (c.in_err-words.ensures.explained plan_bytes trace_bytes plan trace) gives (λ is. unwritten g.W.Write.contents _ _ _ _ _ _ is gives refl)
 
-pub returns-in_err-words-clause-wrote : goal.returns-in_err-words-clause-wrote
-returns-in_err-words-clause-wrote g c = some-nothing g.W.Write.contents c.args.out.now
-
 pub returns-clause-answer : goal.returns-clause-answer
 returns-clause-answer g c = λ plan_bytes trace_bytes plan trace.
     let words = c.in_ok-words.words in
@@ -22,6 +19,3 @@ returns-clause-answer g c = λ plan_bytes trace_bytes plan trace.
     let status = c.write_answer.ensures.answer ∙ ap (λ a. answered a c.write_answer.new.out) c.answer_to.ensures in
     ok-unread _ _ _ _ (c.in_ok-words.ensures.explained plan_bytes trace_bytes plan trace)
     (λ is. written g.W.Write.contents _ _ words _ _ _ is (record { text = c.as_slice.result.now; begins = begins; wrote = c.write_answer.ensures.wrote; status = status }))
-
-pub returns-clause-wrote : goal.returns-clause-wrote
-returns-clause-wrote g c = wrote-some g.W.Write.contents _ _ _ c.write_answer.ensures.wrote
