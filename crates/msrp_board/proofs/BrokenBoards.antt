@@ -6,8 +6,10 @@ use Rattle.msrp_board.specs.declared.books.Book.{Book}
 use Rattle.msrp_board.specs.declared.books.Conductor.TheVariants.{Opened, Aborted}
 use Rattle.msrp_board.specs.declared.books.Entry.{Entry}
 use Rattle.msrp_board.specs.Boards.{IsTied, entries_at}
-use Rattle.msrp_board.specs.Books.{on_resource}
-use Rattle.msrp_board.specs.BrokenBoards.{step, lost_book, shared_ticket, counted_twice, two_holders, invented_grant, old_poll, acted_twice, lost_arrival, invented_stop, early}
+use Rattle.msrp_plan.specs.declared.ids.ResId.{ResId}
+use Rattle.msrp_plan.specs.declared.units.Phase.TheVariants.{Free, Queued}
+use Rattle.msrp_board.specs.Books.{IsKept, on_resource}
+use Rattle.msrp_board.specs.BrokenBoards.{step, lost_book, shared_ticket, counted_twice, two_holders, invented_grant, old_poll, acted_twice, lost_arrival, invented_stop, early, second_word, nine_cores, lost_abort, size, late, undeclared, same_place, unasked}
 use Rattle.msrp_board.specs.History.{Event, by_core, IsServed}
 use Rattle.msrp_board.specs.Words.{ticket_word}
 use Rattle.msrp_board.proofs.Unique.{Before, Sorted, history_is}
@@ -80,3 +82,29 @@ stopped t = clash (t.told 0 _ refl refl)
 
 pub let_in_early : ¬ IsTied early
 let_in_early t = let l : 1 ≤ 0 = (t.met 0 1 _ refl (omega arith)).1 1 _ refl in omega (arith, l)
+
+pub second : ¬ IsTied second_word
+second t = let e : ◌≡◌ {A = ℕ} 2 1 = t.words in omega (arith, e)
+
+pub nine : ¬ IsTied nine_cores
+nine t = let l : 9 ≤ 8 = t.limits.cores.1 in omega (arith, l)
+
+pub abort : ¬ IsTied lost_abort
+abort t = let e : ◌≡◌ {A = ℕ} 0 1 = t.abort in omega (arith, e)
+
+-- ---- each book
+
+pub too_late : ¬ IsKept size late
+too_late k = let l : 5 ≤ 4 = k.within in omega (arith, l)
+
+pub not_declared : ¬ IsKept size undeclared
+not_declared k = let l : 1 < 1 = k.declared.0 in omega (arith, l)
+
+pub placed_once : ¬ IsKept size same_place
+placed_once k = let l : 1 < 1 = (k.places 0).0 in omega (arith, l)
+
+not_queued : (g : ResId) → Free ≡ Queued g → ⊥
+not_queued g e = cc
+
+pub not_asked : ¬ IsKept size unasked
+not_asked k = not_queued (record { 0 = 0 }) k.regular.0

@@ -1,20 +1,24 @@
 -- Boards of two cores and one resource that break one line of the rule each: the conductor opened, and nobody was stopped but where it is said.
 use Rattle.std.specs.Prelude.{◌∷◌}
-use Rattle.msrp_plan.specs.Common.{ℕ, List, [], true, false}
+use Rattle.msrp_plan.specs.Common.{ℕ, List, [], true, false, replicate}
 use Rattle.msrp_plan.specs.declared.units.Call.{Call}
 use Rattle.msrp_plan.specs.declared.units.Call.TheVariants.{Ask, Poll, Leave}
 use Rattle.msrp_board.specs.declared.books.Book.{Book}
-use Rattle.msrp_board.specs.declared.books.Conductor.TheVariants.{Opened}
+use Rattle.msrp_board.specs.declared.books.BoardSize.{BoardSize}
+use Rattle.msrp_board.specs.declared.books.Conductor.TheVariants.{Aborted, Opened}
 use Rattle.msrp_board.specs.declared.books.Entry.{Entry}
 use Rattle.msrp_board.specs.Boards.{WholeBoard}
 use Rattle.msrp_board.specs.Words.{ticket_word}
 use Rattle.msrp_board.specs.Seats.{empty_book}
 use Rattle.msrp_board.specs.Steps.{book_with_stop}
 
+abbrev pub size : BoardSize
+size = record { cores = 2; resources = 1; ticks = 4 }
+
 -- so many requests and releases, and arrivals with the opening
 abbrev board : ℕ → ℕ → ℕ → List Book → WholeBoard
 board requests releases arrivals books = record {
-  size = record { cores = 2; resources = 1; ticks = 4 };
+  size = size;
   tickets = ticket_word requests releases ∷ [];
   barrier = arrivals;
   books = books;
@@ -68,3 +72,31 @@ invented_stop = board 0 0 1 (book_with_stop empty_book ∷ empty_book ∷ [])
 -- core 0 is let into tick 1, and core 1 is in tick 0
 abbrev pub early : WholeBoard
 early = board 0 0 2 (in_tick 1 [] ∷ in_tick 0 [] ∷ [])
+
+-- a word of resource 1
+abbrev pub second_word : WholeBoard
+second_word = record (board 0 0 1 (empty_book ∷ empty_book ∷ [])) { tickets = ticket_word 0 0 ∷ ticket_word 0 0 ∷ [] }
+
+abbrev pub nine_cores : WholeBoard
+nine_cores = record (board 0 0 1 (replicate 9 empty_book)) { size = record size { cores = 9 } }
+
+-- the conductor called the run off, and the barrier word says no such thing
+abbrev pub lost_abort : WholeBoard
+lost_abort = record (board 0 0 0 (empty_book ∷ empty_book ∷ [])) { conductor = Aborted }
+
+-- ---- books
+-- the core is let into tick 4
+abbrev pub late : Book
+late = in_tick 4 []
+
+-- a request of resource 1
+abbrev pub undeclared : Book
+undeclared = in_tick 0 (record (step 0 0 (Ask 0)) { res = record { 0 = 1 } } ∷ [])
+
+-- the core releases at the place of its request
+abbrev pub same_place : Book
+same_place = in_tick 1 (step 0 1 (Ask 0) ∷ step 1 1 Leave ∷ [])
+
+-- the core polls what it didn't request
+abbrev pub unasked : Book
+unasked = in_tick 0 (step 0 0 (Poll true) ∷ [])

@@ -1,6 +1,6 @@
 //! Laws over the definitions alone.
 ghost use Rattle.std.specs.Prelude.{◌≡◌};
-ghost use Rattle.msrp_plan.specs.Common.{List, [], map, false};
+ghost use Rattle.msrp_plan.specs.Common.{[], map, false};
 ghost use Rattle.atomic_table.specs.Table.{State};
 ghost use Rattle.msrp_board.specs.declared.pages.View.{View};
 ghost use Rattle.msrp_board.specs.declared.answers.SeatPhase.TheVariants.{Waiting};
@@ -33,7 +33,8 @@ pub fn tied_at_every_moment()
 
 /// Boards that break one line of the rule each, as wrong calls would: a book that is lost, a place that two requests found, a release
 /// that is counted twice, two cores that are told that none is ahead, a grant of what is held, a poll that tells what an earlier tick found,
-/// a core that acts twice in a tick, an arrival that isn't counted, a stop without an abort, and a core that is let in before all have arrived.
+/// a core that acts twice in a tick, an arrival that isn't counted, a stop without an abort, a core that is let in before all have arrived,
+/// a word of a resource that the board lacks, a ninth core, and an abort that isn't counted.
 pub fn broken_boards()
     ensures lost_book { ¬ IsTied boards.lost_book }
     ensures shared_ticket { ¬ IsTied boards.shared_ticket }
@@ -45,6 +46,18 @@ pub fn broken_boards()
     ensures lost_arrival { ¬ IsTied boards.lost_arrival }
     ensures invented_stop { ¬ IsTied boards.invented_stop }
     ensures early { ¬ IsTied boards.early }
+    ensures second_word { ¬ IsTied boards.second_word }
+    ensures nine_cores { ¬ IsTied boards.nine_cores }
+    ensures lost_abort { ¬ IsTied boards.lost_abort }
+{}
+
+/// Books that break one line of the rule's part on one book each: a tick after the last, a resource that the board lacks, a release at
+/// the place of its request, and a poll without a request.
+pub fn broken_books()
+    ensures late { ¬ IsKept boards.size boards.late }
+    ensures undeclared { ¬ IsKept boards.size boards.undeclared }
+    ensures same_place { ¬ IsKept boards.size boards.same_place }
+    ensures unasked { ¬ IsKept boards.size boards.unasked }
 {}
 
 /// A core that waits for its tick has not acted in it, and one that waits for tick 0 has done nothing. So a seat that

@@ -15,13 +15,15 @@ use std::io::Print;
 const TURNS: [u32; 12] = [0, 1, 0, 1, 1, 0, 0, 1, 0, 1, 0, 1];
 
 /// The next turn of one core, if it has one left. The machines of other cores can go on after it as they could before.
-fn turn(machine: &mut Machine<'_>, port: &mut FifoPort)
-    requires { CanGoOn machine.old port.old }
+fn turn(plan: &Plan, machine: &mut Machine<'_>, port: &mut FifoPort)
+    requires plan { machine.old.plan ≡ plan.now }
+    requires goes { CanGoOn machine.old port.old }
+    ensures plan { machine.new.plan ≡ plan.now }
     ensures core { machine.new.core ≡ machine.old.core }
     ensures own { CanGoOn machine.new port.new }
     ensures others { (other : MachineModel) → other.core ≢ machine.old.core → CanGoOn other port.old → CanGoOn other port.new }
 {
-    if machine.foresee().is_none() {
+    if machine.tick() >= plan.ticks() {
         return;
     }
     machine.turn(port);
@@ -36,9 +38,9 @@ fn served(alloc: Global, plan: &Plan) -> Result<FifoPort, Memory> {
         let mut second = Machine::with_room(alloc, plan, &levels, CoreId(1))?;
         for core in TURNS {
             if core == 0 {
-                turn(&mut first, &mut port);
+                turn(plan, &mut first, &mut port);
             } else {
-                turn(&mut second, &mut port);
+                turn(plan, &mut second, &mut port);
             }
         }
     }

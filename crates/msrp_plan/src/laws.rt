@@ -28,7 +28,9 @@ pub use blocking::{
     blocked_by_one_section, blocked_since_release, bounded_blocking, bounded_sections,
     bounds_of_nested_sections, bounds_of_two_sections, bounds_on_blocking,
 };
-pub use broken::{broken_bounds, broken_deadlines, broken_schedules};
+pub use broken::{
+    broken_beginnings, broken_bounds, broken_deadlines, broken_locks, broken_schedules,
+};
 pub use scheduling::{earliest_deadline_first, existence, runs_released, work_conservation};
 pub use stretches::{stays_again, stretch_ends};
 

@@ -1,5 +1,5 @@
 //! The queue of a resource, as rows tell it.
-ghost use Rattle.std.specs.Prelude.{◌≡◌, ◌++◌, ◌+◌, ◌-◌, ◌^◌, ◌∷◌, ℕ, List, [], cond, min, OnOk};
+ghost use Rattle.std.specs.Prelude.{◌≡◌, ◌++◌, ◌+◌, ◌-◌, ◌^◌, ◌∷◌, ℕ, List, [], cond, min, OnErr, OnOk};
 ghost use Rattle.std.specs.List.{cons_option};
 ghost use Rattle.msrp_plan.specs.Queues.{fifo, is_release_of, requester};
 ghost use Rattle.msrp_plan.specs.Requests.{HasTaken};
@@ -48,9 +48,10 @@ impl Requests {
         }
     }
 
-    /// Takes one row more, whatever it is on.
+    /// Takes one row more, whatever it is on. Where memory is refused, it isn't taken.
     pub fn take(&mut self, row: &Row) -> Result<(), Memory>
-        ensures { (g : ℕ) (rows : List TraceRow) → HasTaken self.old g rows → OnOk result (HasTaken self.new g (rows ++ row.now ∷ [])) }
+        ensures taken { (g : ℕ) (rows : List TraceRow) → HasTaken self.old g rows → OnOk result (HasTaken self.new g (rows ++ row.now ∷ [])) }
+        ensures kept { (g : ℕ) (rows : List TraceRow) → HasTaken self.old g rows → OnErr result (HasTaken self.new g rows) }
     {
         self.request(requester(self.res, row))?;
         self.release(is_release_of(self.res, row));
@@ -67,6 +68,7 @@ impl Requests {
     // Takes the request of a job, if there is one.
     fn request(&mut self, job: Option<JobId>) -> Result<(), Memory>
         ensures jobs { OnOk result (self.new.jobs.items ≡ self.old.jobs.items ++ cons_option job []) }
+        ensures kept { OnErr result (self.new.jobs.items ≡ self.old.jobs.items) }
         ensures res { self.new.res ≡ self.old.res }
         ensures releases { self.new.releases ≡ self.old.releases }
     {

@@ -1,7 +1,7 @@
 //! Worked examples, computed from the definitions alone: of each plan a legal run, and beside it rows that
 //! aren't legal, with the verdict on them. Each function does nothing; its contract is the example. The plans
 //! and rows stand in `specs/Examples`.
-ghost use Rattle.std.specs.Prelude.{◌≡◌, true, false, [], ◌∷◌, Some, None, codes, replicate};
+ghost use Rattle.std.specs.Prelude.{◌≡◌, true, false, [], ◌∷◌, ◌++◌, Some, None, codes, map, replicate};
 ghost use Rattle.msrp_plan.specs.Aheads.{carries_ahead};
 ghost use Rattle.msrp_plan.specs.Levels.{level, local_ceiling, top, is_global};
 ghost use Rattle.msrp_plan.specs.Runs.{IsRun};
@@ -200,6 +200,8 @@ pub fn refused_resources()
     ensures no_name { resource_fault (with_tasks []) [] ≡ Some Name }
     ensures digit_first { resource_fault (with_tasks []) (codes "0a") ≡ Some Name }
     ensures capital { resource_fault (with_tasks []) (codes "aB") ≡ Some Name }
+    ensures byte_beside { map (λ byte. resource_fault (with_tasks []) (codes "a" ++ byte ∷ [])) (codes "-/:^`{") ≡ replicate 6 (Some Name) }
+    ensures byte_first { map (λ byte. resource_fault (with_tasks []) (byte ∷ codes "a")) (codes "-0_`{") ≡ replicate 5 (Some Name) }
     ensures resource_taken { resource_fault full_of_resources (codes "r") ≡ Some Taken }
     ensures resource_33 { resource_fault full_of_resources (codes "s") ≡ Some Limit }
 {}

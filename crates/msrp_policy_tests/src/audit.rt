@@ -113,7 +113,7 @@ fn wrong(alloc: Global, all: &[Told]) -> Result<Option<usize>, Fail> {
     Ok(first_wrong(&mut auditor, all))
 }
 
-fn fault(row: u32, rule: Rule) -> Result<(), Fault> {
+pub(crate) fn fault(row: u32, rule: Rule) -> Result<(), Fault> {
     Err(Fault { row, rule })
 }
 
@@ -151,49 +151,53 @@ fn a_row_too_many_is_told(rt: HostRuntime) -> Result<(), Fail> {
 }
 
 // A task on each of eight cores, which want one resource, in the longest run of the most cores.
-const CROWD: &[u8] =
+pub(crate) const CROWD: &[u8] =
     b"msrp,1\ncores,8\nticks,20000\nresource,g\ntask,a,0,20,8,0\nop,lock,g\nop,run,1\nop,unlock,g\ntask,b,1,20,8,0\nop,lock,g\nop,run,1\nop,unlock,g\ntask,c,2,20,8,0\nop,lock,g\nop,run,1\nop,unlock,g\ntask,d,3,20,8,0\nop,lock,g\nop,run,1\nop,unlock,g\ntask,e,4,20,8,0\nop,lock,g\nop,run,1\nop,unlock,g\ntask,f,5,20,8,0\nop,lock,g\nop,run,1\nop,unlock,g\ntask,g,6,20,8,0\nop,lock,g\nop,run,1\nop,unlock,g\ntask,h,7,20,8,0\nop,lock,g\nop,run,1\nop,unlock,g\n";
 
-fn run_of(alloc: Global, plan: &Plan) -> Result<Trace, Fail> {
+pub(crate) fn run_of(alloc: Global, plan: &Plan) -> Result<Trace, Fail> {
     match simulate(alloc, plan, &Order::Rot) {
         Ok(trace) => Ok(trace),
         Err(_) => Err(Fail::from("memory")),
     }
 }
 
-// The first row that isn't foreseen, or isn't good, by its place.
-fn first_unforeseen(auditor: &mut Auditor<'_>, rows: &[Row]) -> Option<usize> {
+// The first row that isn't due of its core, or isn't good, by its place.
+fn first_undue(auditor: &mut Auditor<'_>, rows: &[Row]) -> Option<usize> {
     for (at, row) in rows.iter().enumerate() {
-        if auditor.foresee(row.core) != Some(*row) || auditor.feed(*row) != Ok(()) {
+        if !auditor.is_due(row.core) {
+            return Some(at);
+        }
+        let due = auditor.turn(row.core);
+        if due != *row || auditor.judge(due, *row) != Ok(()) {
             return Some(at);
         }
     }
     None
 }
 
-// Whether a row is foreseen of any of nine cores.
-fn foresees_more(auditor: &Auditor<'_>) -> bool {
+// Whether any of nine cores is due.
+fn is_more_due(auditor: &Auditor<'_>) -> bool {
     for core in 0..9u32 {
-        if auditor.foresee(CoreId(core)).is_some() {
+        if auditor.is_due(CoreId(core)) {
             return true;
         }
     }
     false
 }
 
-// The first row of the longest run that isn't foreseen, and whether one is foreseen after the last.
-fn unforeseen(alloc: Global) -> Result<(Option<usize>, bool), Fail> {
+// The first row of the longest run that isn't due, and whether a core is due after the last.
+fn undue(alloc: Global) -> Result<(Option<usize>, bool), Fail> {
     let plan = plan_of(alloc, CROWD)?;
     let levels = Levels::of(alloc, &plan)?;
     let trace = run_of(alloc, &plan)?;
     let mut auditor = Auditor::with_room(alloc, &plan, &levels)?;
-    let first = first_unforeseen(&mut auditor, trace.rows.as_slice());
-    Ok((first, foresees_more(&auditor)))
+    let first = first_undue(&mut auditor, trace.rows.as_slice());
+    Ok((first, is_more_due(&auditor)))
 }
 
-// A row is foreseen in each turn, also where a job of its core is released, in each twentieth, or starts; and none after the last.
+// A row is due in each turn, also where a job of its core is released, in each twentieth, or starts; and none after the last.
 #[test]
-fn each_row_is_foreseen(rt: HostRuntime) -> Result<(), Fail> {
-    assert_eq!(rt; unforeseen(rt.alloc())?, (None, false));
+fn each_row_is_due(rt: HostRuntime) -> Result<(), Fail> {
+    assert_eq!(rt; undue(rt.alloc())?, (None, false));
     Ok(())
 }

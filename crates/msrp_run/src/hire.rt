@@ -1,4 +1,5 @@
 //! Which threads may be started, and why a run is refused.
+ghost use Rattle.std.specs.Prelude.{◌≡◌, true};
 
 use msrp_plan::{CoreId, Memory};
 use thiserror::Error;
@@ -15,7 +16,9 @@ pub trait Hire {
 pub struct HireAll;
 
 impl Hire for HireAll {
-    fn may_start(&self, _core: CoreId) -> bool {
+    fn may_start(&self, _core: CoreId) -> bool
+        ensures { result ≡ true }
+    {
         true
     }
 }
@@ -32,7 +35,6 @@ pub enum RunError {
 }
 
 impl From<Memory> for RunError {
-    ghost use Rattle.std.specs.Prelude.{◌≡◌};
     ghost use Rattle.msrp_run.specs.declared.hire.RunError.{RunError};
 
     ghost from_gives = { λ _ error. error ≡ RunError.U1 };

@@ -9,14 +9,14 @@ use std::test::Fail;
 
 // Gives its text a byte a call, and fails at one call.
 #[derive(Drop)]
-struct Halting<'a> {
+pub(crate) struct Halting<'a> {
     text: &'a [u8],
     at: usize,
     call: u32,
     fails_at: u32,
 }
 
-fn halt_at(text: &[u8], fails_at: u32) -> Halting<'_> {
+pub(crate) fn halt_at(text: &[u8], fails_at: u32) -> Halting<'_> {
     Halting {
         text,
         at: 0,
@@ -204,6 +204,11 @@ fn records_over_the_border(rt: HostRuntime) -> Result<(), Fail> {
     Ok(())
 }
 
+// Whether a line comes: a first text, a digit between commas, and the rest with a line feed. Then it is taken.
+fn meets<R: Read>(records: &mut RecordReader<R>, front: &[u8], line: &[u8]) -> bool {
+    records.digit_after(front).is_some() && records.meets_behind(front, line)
+}
+
 // Whether a line is met after a first record, and the records after it.
 fn met_after_one(
     alloc: Global,
@@ -216,27 +221,26 @@ fn met_after_one(
     if records.read(&mut row) != Ok(true) {
         return Err(Fail::new("no record"));
     }
-    let met = records.meets(front, line);
+    let met = meets(&mut records, front, line);
     Ok((met, records_told(alloc, &mut records)?))
 }
 
 // A text, a line in two parts, of which the second has a line feed where it may be met, whether it is met after the first record, and the records that are left.
-const FORESEEN: [(&[u8], &[u8], &[u8], bool, &[u8]); 15] = [
-    (b"1\nab,c\nd", b"ab", b",c\n", true, b"d|/"),
-    (b"1\nab,c\r\nd", b"ab", b",c\n", true, b"d|/"),
-    (b"1\r\nab,c\nd", b"", b"ab,c\n", true, b"d|/"),
-    (b"1\nab,c\nd", b"ab,c", b"\n", true, b"d|/"),
-    (b"1\nab,c\n", b"ab", b",c\n", true, b""),
-    (b"1\nab,c\nd", b"ab", b",\n", false, b"ab|c|/d|/"),
-    (b"1\nab,c\nd", b"ab", b",cd\n", false, b"ab|c|/d|/"),
-    (b"1\nab,c\nd", b"a", b",c\n", false, b"ab|c|/d|/"),
-    (b"1\nab,c\nd", b"ab,c\nd\nef", b"\n", false, b"ab|c|/d|/"),
-    (b"1\nab,c\rd", b"ab", b",c\n", true, b"d|/"),
-    (b"1\nab,c\r", b"ab", b",c\n", true, b""),
-    (b"1\nab,c", b"ab", b",c\n", false, b"ab|c|/"),
-    (b"1\nab,c\nd", b"ab,c\n", b"", false, b"ab|c|/d|/"),
-    (b"1\nab,c\nd", b"ab", b",c", false, b"ab|c|/d|/"),
-    (b"\"1\"\nab,c\nd", b"ab", b",c\n", false, b"ab|c|/d|/"),
+const FORESEEN: [(&[u8], &[u8], &[u8], bool, &[u8]); 14] = [
+    (b"1\nab,2,c\nd", b"ab", b",2,c\n", true, b"d|/"),
+    (b"1\nab,2,c\r\nd", b"ab", b",2,c\n", true, b"d|/"),
+    (b"1\r\n,2,c\nd", b"", b",2,c\n", true, b"d|/"),
+    (b"1\nab,2,c\n", b"ab", b",2,c\n", true, b""),
+    (b"1\nab,2,c\nd", b"ab", b",2,\n", false, b"ab|2|c|/d|/"),
+    (b"1\nab,2,c\nd", b"ab", b",2,cd\n", false, b"ab|2|c|/d|/"),
+    (b"1\nab,2,c\nd", b"a", b"b,2,c\n", false, b"ab|2|c|/d|/"),
+    (b"1\nab,2,c\nd", b"ab", b",2,c\nd\n", false, b"ab|2|c|/d|/"),
+    (b"1\nab,2,c\rd", b"ab", b",2,c\n", true, b"d|/"),
+    (b"1\nab,2,c\r", b"ab", b",2,c\n", true, b""),
+    (b"1\nab,2,c", b"ab", b",2,c\n", false, b"ab|2|c|/"),
+    (b"1\nab,x,c\nd", b"ab", b",x,c\n", false, b"ab|x|c|/d|/"),
+    (b"1\nab,2,c\nd", b"ab", b",2,c", false, b"ab|2|c|/d|/"),
+    (b"\"1\"\nab,2,c\nd", b"ab", b",2,c\n", false, b"ab|2|c|/d|/"),
 ];
 
 #[test]
@@ -251,28 +255,26 @@ fn foreseen_lines_are_met_whole(rt: HostRuntime) -> Result<(), Fail> {
 
 // A text, and its lines in two parts, each with a line feed.
 const LINES: (&[u8], [(&[u8], &[u8]); 6]) = (
-    b"1,a\n2,bc\r\n3,d\n4,e\n5,f\r\n6,\n",
+    b"1,1,a\n2,1,bc\r\n3,1,d\n4,1,e\n5,1,f\r\n6,1,\n",
     [
-        (b"1,", b"a\n"),
-        (b"2,", b"bc\n"),
-        (b"3,", b"d\n"),
-        (b"4,", b"e\n"),
-        (b"5,", b"f\n"),
-        (b"6,", b"\n"),
+        (b"1", b",1,a\n"),
+        (b"2", b",1,bc\n"),
+        (b"3", b",1,d\n"),
+        (b"4", b",1,e\n"),
+        (b"5", b",1,f\n"),
+        (b"6", b",1,\n"),
     ],
 );
 
-// How many of the lines are met, where each read gives so many bytes. Each that isn't is read, and is then the same.
+// How many of the lines are met, where each read gives so many bytes.
 fn lines_met(alloc: Global, size: usize) -> Result<usize, Fail> {
     let (text, lines) = LINES;
     let mut records = RecordReader::new(alloc, Pieces { text, size });
     let mut row = ByteRecord::new(alloc);
     let mut met = 0usize;
     for (front, line) in lines {
-        if records.meets(front, line) {
+        if meets(&mut records, front, line) {
             met = met.saturating_add(1);
-        } else if records.read(&mut row) != Ok(true) || row.get(1) != line.strip_suffix(b"\n") {
-            return Err(Fail::new("another record"));
         }
     }
     match records.read(&mut row) {

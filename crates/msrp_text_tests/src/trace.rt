@@ -1,9 +1,10 @@
 //! Tests on texts: worked traces, rows that are foreseen, and readers that have ended.
 
+use crate::text::halt_at;
 use msrp_plan::bytes::{Sink, Source};
 use msrp_plan::{Plan, Row, TextVersion, Trace};
 use msrp_text::read_plan;
-use msrp_trace::{TraceError, TraceFault, TraceReader, are_named, write_trace};
+use msrp_trace::{RowTexts, TraceError, TraceFault, TraceReader, are_named, is_named, write_trace};
 use std::alloc::Global;
 use std::io::{Read, Write};
 use std::test::Fail;
@@ -103,47 +104,26 @@ fn texts_are_read_and_written_again(rt: HostRuntime) -> Result<(), Fail> {
     Ok(())
 }
 
-// A row as it would be in tick 7, which is past the plan's ticks.
-fn at_another_tick(row: &Row) -> Row {
-    Row {
-        tick: 7,
-        core: row.core,
-        kind: row.kind,
-        job: row.job,
-        res: row.res,
-        ahead: row.ahead,
-    }
-}
-
-// Whether each of these rows is met, in turn, and none at another tick.
-fn meets_each<R: Read>(reader: &mut TraceReader<'_, R>, rows: &[Row]) -> bool {
+// Whether each of these rows is met, in turn, by the text that is made of it, and none before that
+// is made, nor in another tick.
+fn meets_each<R: Read>(plan: &Plan, reader: &mut TraceReader<'_, R>, rows: &[Row]) -> bool {
     for row in rows.iter() {
-        let other = at_another_tick(row);
-        if reader.meets(&other) || !reader.meets(row) {
+        let mut texts = RowTexts::new(plan, reader.version());
+        if reader.core_ahead(row.tick.saturating_add(1)).is_some() {
+            return false;
+        }
+        if reader.core_ahead(row.tick) != Some(row.core) || !is_named(plan, row) {
+            return false;
+        }
+        if reader.comes_behind(row.tick, &texts, row.core) {
+            return false;
+        }
+        texts.show(row);
+        if !reader.comes_behind(row.tick, &texts, row.core) {
             return false;
         }
     }
     true
-}
-
-// How often it was asked to foresee a row, if each row was given and each time the core asked of was the row's.
-fn times_asked<R: Read>(
-    reader: &mut TraceReader<'_, R>,
-    rows: &[Row],
-) -> Result<Option<usize>, TraceError> {
-    let mut times = 0usize;
-    for row in rows.iter() {
-        let mut asked = None;
-        let told = reader.next_foreseen(|core| {
-            asked = Some(core);
-            None
-        })?;
-        if told != Some(*row) || asked.is_some_and(|core| core != row.core) {
-            return Ok(None);
-        }
-        times = times.saturating_add(usize::from(asked.is_some()));
-    }
-    Ok(Some(times))
 }
 
 // Whether a reader of a text meets all its rows.
@@ -151,7 +131,7 @@ fn is_met(alloc: Global, text: &[u8], plan: &Plan) -> Result<bool, TraceError> {
     let trace = read_text(alloc, text, plan)?;
     let mut source = Source::new(text);
     let mut reader = TraceReader::new(alloc, &mut source, plan)?;
-    let met = meets_each(&mut reader, trace.rows.as_slice());
+    let met = meets_each(plan, &mut reader, trace.rows.as_slice());
     drop(reader);
     Ok(met)
 }
@@ -163,26 +143,6 @@ fn foreseen_rows_are_met(rt: HostRuntime) -> Result<(), Fail> {
     for text in [VERSION_ONE, VERSION_TWO] {
         let met = is_met(alloc, text, &plan);
         assert!(rt; met == Ok(true));
-    }
-    Ok(())
-}
-
-// A row is foreseen for its own core. The idle rows of ticks 4 and 5 on core 0 are its last row again, and nobody is asked.
-#[test]
-fn rows_are_foreseen_for_their_core(rt: HostRuntime) -> Result<(), Fail> {
-    let alloc = rt.alloc();
-    let plan = handover(alloc)?;
-    for text in [VERSION_ONE, VERSION_TWO] {
-        let Ok(trace) = read_text(alloc, text, &plan) else {
-            return Err(Fail::new("refused"));
-        };
-        let mut source = Source::new(text);
-        let Ok(mut reader) = TraceReader::new(alloc, &mut source, &plan) else {
-            return Err(Fail::new("refused"));
-        };
-        let times = times_asked(&mut reader, trace.rows.as_slice());
-        drop(reader);
-        assert!(rt; times == Ok(Some(10)));
     }
     Ok(())
 }
@@ -208,6 +168,28 @@ fn faults_have_their_codes(rt: HostRuntime) {
     for (fault, code) in table {
         assert!(rt; fault.code() == code);
     }
+}
+
+// Whether a trace is opened of which one read fails, where each read gives a byte.
+fn opens(alloc: Global, plan: &Plan, call: u32) -> Result<(), TraceError> {
+    let mut source = Source::new(halt_at(VERSION_ONE, call));
+    let reader = TraceReader::new(alloc, &mut source, plan)?;
+    drop(reader);
+    Ok(())
+}
+
+// The first record has 17 bytes.
+#[test]
+fn a_first_record_that_cannot_be_read(rt: HostRuntime) -> Result<(), Fail> {
+    let plan = handover(rt.alloc())?;
+    for call in 1..=17u32 {
+        assert!(rt;
+            opens(rt.alloc(), &plan, call) == Err(TraceError::Read),
+            "{call}"
+        );
+    }
+    assert!(rt; opens(rt.alloc(), &plan, 18) == Ok(()));
+    Ok(())
 }
 
 #[test]

@@ -1,6 +1,6 @@
 -- Rows that aren't legal, each list short of what one law promises, and past its bound by one.
 use Rattle.std.specs.Prelude.{List, [], ◌∷◌, ◌++◌}
-use Rattle.msrp_plan.specs.Examples.Notation.{job, runs, lock, unlock, take, queue, spin}
+use Rattle.msrp_plan.specs.Examples.Notation.{job, run, runs, lock, unlock, take, queue, spin}
 use Rattle.msrp_plan.specs.declared.rows.Row.{Row}
 
 -- on two cores: while b waits, a takes the resource twice
@@ -22,3 +22,15 @@ long_section = lock 0 0 (job 0 0) 0 ∷ spin 1 0 (job 0 0) 0 ∷ runs 2 12 0 (jo
 -- k makes 14 rows while j2 waits, where the bound is 13
 abbrev pub long_blocking : List Row
 long_blocking = lock 0 0 (job 0 0) 0 ∷ runs 1 14 0 (job 0 0)
+
+-- k locks in tick 1, after a row of another job in tick 0
+abbrev pub after_another_job : List Row
+after_another_job = run 0 0 (job 1 0) ∷ lock 1 0 (job 0 0) 0 ∷ []
+
+-- a requests in tick 5, and spins in a tick before it
+abbrev pub queued_later : List Row
+queued_later = queue 5 0 (job 0 0) 0 ∷ spin 2 0 (job 0 0) 0 ∷ []
+
+-- encode works in tick 0 and locks in tick 1
+abbrev pub worked_before : List Row
+worked_before = run 0 0 (job 0 0) ∷ lock 1 0 (job 0 0) 0 ∷ []

@@ -1,17 +1,21 @@
 //! Rows that break a law, so that no law holds of whatever rows.
-ghost use Rattle.std.specs.Prelude.{take};
+ghost use Rattle.std.specs.Prelude.{[], take, false};
 ghost use Rattle.msrp_plan.specs.Laws.{BoundedOvertaking, BoundedSpinning, ShortQueues};
-ghost use Rattle.msrp_plan.specs.Blocking.{BlockedByBegunSections, BlockedByOneSection, BoundedBlocking, BoundedSections};
+ghost use Rattle.msrp_plan.specs.Blocking.{BlockedByBegunSections, BlockedByOneSection, BoundedBlocking, BoundedSections, IsBegun};
+ghost use Rattle.msrp_plan.specs.LockStates.{Agree};
 ghost use Rattle.msrp_plan.specs.Scheduling.{EarliestDeadlineFirst, RunsReleased, WorkConservation};
-ghost use Rattle.msrp_plan.specs.Examples.Notation.{job, run, changed};
+ghost use Rattle.msrp_plan.specs.Examples.Notation.{job, run, queue, take as taken, changed};
 ghost use Rattle.msrp_plan.specs.Examples.BlockedByTheCeiling as blocked_by_the_ceiling;
 ghost use Rattle.msrp_plan.specs.Examples.BlockedHead as blocked_head;
 ghost use Rattle.msrp_plan.specs.Examples.BrokenLaws as broken_laws;
 ghost use Rattle.msrp_plan.specs.Examples.EqualDeadlines as equal_deadlines;
+ghost use Rattle.msrp_plan.specs.Examples.GlobalInsideLocal as global_inside_local;
 ghost use Rattle.msrp_plan.specs.Examples.HandoverATickLater as handover_a_tick_later;
+ghost use Rattle.msrp_plan.specs.Examples.HandoverWithinATick as handover_within_a_tick;
 ghost use Rattle.msrp_plan.specs.Examples.JobsOfOneTask as jobs_of_one_task;
 ghost use Rattle.msrp_plan.specs.Examples.PreemptsASection as preempts_a_section;
 ghost use Rattle.msrp_plan.specs.Examples.TwoHeads as two_heads;
+ghost use Rattle.msrp_plan.specs.declared.units.Call.TheVariants.{Ask, Poll, Leave};
 
 /// Rows that break one bound each: an overtaking too many, a queue too long, a spin too many, a row
 /// too many in a section, and while a job is blocked.
@@ -42,4 +46,21 @@ pub fn broken_deadlines()
     ensures above { ¬ EarliestDeadlineFirst blocked_by_the_ceiling.plan (take 2 blocked_by_the_ceiling.past_the_ceiling) }
     ensures goes_on { ¬ EarliestDeadlineFirst preempts_a_section.plan (take 3 (changed preempts_a_section.rows 3 (run 2 0 (job 0 0)))) }
     ensures blocked { ¬ EarliestDeadlineFirst preempts_a_section.plan (take 2 preempts_a_section.without_preemption) }
+{}
+
+/// A section whose first row comes no earlier than a tick, though another row does: a row of another job,
+/// one in which the job is queued already, and one before its lock.
+pub fn broken_beginnings()
+    ensures job { ¬ IsBegun blocked_head.plan broken_laws.after_another_job (job 0 0) 1 }
+    ensures outside { ¬ IsBegun handover_within_a_tick.plan broken_laws.queued_later (job 0 0) 3 }
+    ensures unit { ¬ IsBegun global_inside_local.plan broken_laws.worked_before (job 0 0) 1 }
+{}
+
+/// Where queue and lock don't agree on a row and a call that it doesn't make: the lock answers a request with
+/// nobody ahead, and the row is queued; the row takes a free resource, and the lock doesn't answer the poll;
+/// the holder works on, and the lock is released.
+pub fn broken_locks()
+    ensures replies { ¬ Agree handover_within_a_tick.plan [] (queue 0 0 (job 0 0) 0) 0 (Ask 0) }
+    ensures answers { ¬ Agree handover_within_a_tick.plan [] (taken 0 0 (job 0 0) 0) 0 (Poll false) }
+    ensures next { ¬ Agree handover_within_a_tick.plan (take 2 handover_within_a_tick.rows) (run 1 0 (job 0 0)) 0 Leave }
 {}

@@ -1,5 +1,6 @@
 //! Worked examples of corners in which a definition is easily taken wrongly.
-ghost use Rattle.std.specs.Prelude.{◌≡◌, true, [], ◌∷◌, ◌++◌, take};
+ghost use Rattle.std.specs.Prelude.{◌≡◌, true, false, [], ◌∷◌, ◌++◌, take};
+ghost use Rattle.msrp_plan.specs.Calls.{claim_with};
 ghost use Rattle.msrp_plan.specs.Codes.{code_of};
 ghost use Rattle.msrp_plan.specs.Levels.{level, local_ceiling};
 ghost use Rattle.msrp_plan.specs.Limits.{most_bytes, most_calls};
@@ -24,6 +25,7 @@ ghost use Rattle.msrp_plan.specs.Examples.WrongActions as wrong_actions;
 ghost use Rattle.msrp_plan.specs.Examples.PastLimits.{nine_cores, nine_held, no_unit, jobs_8193};
 ghost use Rattle.msrp_plan.specs.declared.faults.PlanFault.TheVariants.{Read, Memory};
 ghost use Rattle.msrp_plan.specs.declared.faults.Rule.TheVariants.{A3, A4, A5};
+ghost use Rattle.msrp_plan.specs.declared.units.Call.TheVariants.{Ask, Leave, Poll};
 ghost use Rattle.msrp_plan.specs.declared.units.Phase.TheVariants.{Free, Holding, Queued};
 
 /// Each job of a task waits for its own release, and the core idles between two of them.
@@ -85,12 +87,17 @@ pub fn lock_calls()
     ensures polled_unasked { ¬ Legal lock_calls.polled_unasked }
 {}
 
-/// The order of rising cores, and what a core's rows leave it in.
+/// The order of rising cores, what a core's rows leave it in, and what each of its calls leaves it in.
 pub fn orders_and_phases()
     ensures rising { ascending 2 2 ≡ 0 ∷ 1 ∷ 0 ∷ 1 ∷ [] }
     ensures holding { phase_after (log_of 0 (take 4 handover_within_a_tick.rows)) ≡ Holding (record { 0 = 0 }) }
     ensures queued { phase_after (log_of 1 (take 4 handover_within_a_tick.rows)) ≡ Queued (record { 0 = 0 }) }
     ensures released { phase_after (log_of 0 handover_within_a_tick.rows) ≡ Free }
+    ensures takes { claim_with Free (record { 0 = 0 }) (Ask 0) ≡ Holding (record { 0 = 0 }) }
+    ensures joins { claim_with Free (record { 0 = 0 }) (Ask 1) ≡ Queued (record { 0 = 0 }) }
+    ensures spins { claim_with (Queued (record { 0 = 0 })) (record { 0 = 0 }) (Poll false) ≡ Queued (record { 0 = 0 }) }
+    ensures granted { claim_with (Queued (record { 0 = 0 })) (record { 0 = 0 }) (Poll true) ≡ Holding (record { 0 = 0 }) }
+    ensures leaves { claim_with (Holding (record { 0 = 0 })) (record { 0 = 0 }) Leave ≡ Free }
 {}
 
 /// The limits of a source of bytes, and the codes of the two refusals that no text brings about.

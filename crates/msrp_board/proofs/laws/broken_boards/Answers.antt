@@ -1,4 +1,4 @@
-use Rattle.msrp_board.proofs.BrokenBoards.{lost, shared, counted, holders, invented, old, acted, uncounted, stopped, let_in_early}
+use Rattle.msrp_board.proofs.BrokenBoards.{lost, shared, counted, holders, invented, old, acted, uncounted, stopped, let_in_early, second, nine, abort}
 use Rattle.msrp_board.proofs.laws.broken_boards.Goals as goal
 
 pub returns : goal.returns
@@ -13,4 +13,7 @@ returns c = record {
   lost_arrival = uncounted;
   invented_stop = stopped;
   early = let_in_early;
+  second_word = second;
+  nine_cores = nine;
+  lost_abort = abort;
 }

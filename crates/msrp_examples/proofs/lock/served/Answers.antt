@@ -18,6 +18,8 @@ loop-core-init c =
     record {
       first = first;
       second = second;
+      first_plan = one.plan;
+      second_plan = two.plan;
       first_goes_on = begins c.in_ok-first.first plan c.in_ok-port.port one.plan (omega (arith, first, cores, both)) one.phase one.stands c.in_ok-port.ensures;
       second_goes_on = begins c.in_ok-second.second plan c.in_ok-port.port two.plan (omega (arith, second, cores, both)) two.phase two.stands c.in_ok-port.ensures;
     }
@@ -31,12 +33,16 @@ loop-core-preserved c =
       | then-core-eq0 w ↦ record {
         first = ap (λ (m : MachineModel). m.core) w.first-is ∙ (w.turn.ensures.core ∙ all.first);
         second = ap (λ (m : MachineModel). m.core) w.second-is ∙ all.second;
+        first_plan = ap (λ (m : MachineModel). m.plan) w.first-is ∙ w.turn.ensures.plan;
+        second_plan = ap (λ (m : MachineModel). m.plan) w.second-is ∙ all.second_plan;
         first_goes_on = subst (λ m. CanGoOn m c.if-core-eq0.port) (sym w.first-is) (subst (CanGoOn w.turn.new.machine) (sym w.port-is) w.turn.ensures.own);
         second_goes_on = subst (λ m. CanGoOn m c.if-core-eq0.port) (sym w.second-is) (subst (CanGoOn before.second) (sym w.port-is) (w.turn.ensures.others before.second apart all.second_goes_on));
       }
       | else-core-eq0 w ↦ record {
         first = ap (λ (m : MachineModel). m.core) w.first-is ∙ all.first;
         second = ap (λ (m : MachineModel). m.core) w.second-is ∙ (w.turn-else-core-eq0.ensures.core ∙ all.second);
+        first_plan = ap (λ (m : MachineModel). m.plan) w.first-is ∙ all.first_plan;
+        second_plan = ap (λ (m : MachineModel). m.plan) w.second-is ∙ w.turn-else-core-eq0.ensures.plan;
         first_goes_on = subst (λ m. CanGoOn m c.if-core-eq0.port) (sym w.first-is) (subst (CanGoOn before.first) (sym w.port-is) (w.turn-else-core-eq0.ensures.others before.first (λ e. apart (sym e)) all.first_goes_on));
         second_goes_on = subst (λ m. CanGoOn m c.if-core-eq0.port) (sym w.second-is) (subst (CanGoOn w.turn-else-core-eq0.new.machine) (sym w.port-is) w.turn-else-core-eq0.ensures.own);
       }
