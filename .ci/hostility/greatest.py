@@ -5,7 +5,7 @@ import json
 import xml.etree.ElementTree as tree
 
 from .inputs import text
-from .program import COMMANDS, GOOD, TOP, ask, judges, makes_trace, varies, words_of
+from .program import COMMANDS, FAULT, GOOD, TOP, Answer, ask, judges, makes_trace, varies, words_of
 from .sweep import kept
 
 VIEWER = TOP / "crates/msrp_view/out/msrp_view"
@@ -39,6 +39,7 @@ PLANS = {
     "8 cores without tasks": text(f"msrp,1 cores,8 ticks,{TICKS}"),
     "resources that nobody uses": text(f"msrp,1 cores,1 ticks,1 {each(32, 'resource,r{}'.format)}"),
     "64 tasks in one tick": text(f"msrp,1 cores,8 ticks,1 {each(64, lambda number: f'task,t{number},{number % 8},1,1,0 op,run,1')}"),
+    "262,212 records": text(f"msrp,1 cores,8 ticks,1 resource,r {each(64, lambda number: f'task,t{number},{number % 8},1,1,0' + ' op,lock,r op,unlock,r' * 2048)}"),
     "one tick": text("msrp,1 cores,1 ticks,1"),
 }
 
@@ -118,6 +119,27 @@ def whole_dump(found, name, plan):
     found.judge(answer.status == GOOD and not answer.line and are_events(answer.out), f"{name}, trace events", answer)
 
 
+def whole_words(found, name, plan):
+    """What is said of the plan, and of its run: that both are good."""
+    path = kept("plan", plan)
+    trace = kept("trace", ask(words_of("sim", path, "")).out)
+    for words in ([str(path)], [str(path), str(trace)]):
+        answer = ask(["--why", *words], program=VIEWER)
+        found.judge(answer.status == GOOD and not answer.line and answer.out.startswith(b"good\n"), f"{name}, {len(words)} files in words", answer)
+
+
+def without_rows(found, name, plan):
+    """A trace without a row: the first one is missing, by each way to judge it."""
+    size, path = Size(plan), kept("plan", plan)
+    trace = kept("trace", b"msrp-trace,1,%d,%d\n" % (size.cores, size.ticks))
+    for command in filter(judges, COMMANDS):
+        answer = ask(words_of(command, path, trace))
+        found.judge(answer == Answer(FAULT, b"fault,1,A6\n", b""), f"{name}, no row, {command}", answer)
+    for flag in ("--text", "--svg", "--why", "--vcd", "--perfetto"):
+        answer = ask([flag, str(path), str(trace)], program=VIEWER)
+        found.judge(answer.status == FAULT and not answer.line and b"A6" in answer.out, f"{name}, no row, {flag}", answer)
+
+
 def are_events(text):
     """Whether this is JSON of trace events in which as many slices end as begin."""
     try:
@@ -140,5 +162,5 @@ def pieces():
     return {
         "the greatest and the least plans": [(whole_answers, *plan) for plan in PLANS.items()]
         + [(whole_pictures, *plan, style) for plan in PLANS.items() for style in ("--text", "--svg")]
-        + [(whole_dump, *plan) for plan in PLANS.items()],
+        + [(work, *plan) for plan in PLANS.items() for work in (whole_dump, whole_words, without_rows)],
     }

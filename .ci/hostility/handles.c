@@ -1,12 +1,8 @@
 /* Calls on an auditor from C: rows one by one, wrong use, and each allocation refused in turn.
  * With PLAIN defined malloc is the system's, and nothing is refused. */
 #include "msrp.h"
-#include <stdio.h>
-#include <stdlib.h>
-#include <string.h>
+#include "refusing.h"
 
-#define BYTES(text) (const uint8_t *)(text), strlen(text)
-#define NEVER -1
 #define NO MSRP_NONE
 
 static const char *const PLAN = "msrp,1\ncores,2\nticks,4\nresource,g\n"
@@ -17,14 +13,6 @@ static const struct msrp_row ROWS[] = {
     {1, 1, MSRP_SPIN, 1, 0, 0, NO},    {2, 0, MSRP_RELEASE, 0, 0, 0, NO}, {2, 1, MSRP_GRANT, 1, 0, 0, NO},
     {3, 0, MSRP_IDLE, NO, NO, NO, NO}, {3, 1, MSRP_RUN, 1, 0, NO, NO}};
 #define COUNT (sizeof ROWS / sizeof *ROWS)
-
-#define EXPECT(holds)                                          \
-    do {                                                       \
-        if (!(holds)) {                                        \
-            printf("line %d: not so: %s\n", __LINE__, #holds); \
-            exit(1);                                           \
-        }                                                      \
-    } while (0)
 
 static struct msrp_found found;
 
@@ -77,33 +65,6 @@ static void audits(void) {
 }
 
 #ifndef PLAIN
-static long left = NEVER, held;
-void *__real_malloc(size_t);
-void *__real_realloc(void *, size_t);
-void __real_free(void *);
-void *__wrap_malloc(size_t size);
-void *__wrap_realloc(void *old, size_t size);
-void __wrap_free(void *old);
-
-static int is_refused(void) { return left >= 0 && left-- == 0; }
-
-void *__wrap_malloc(size_t size) {
-    void *made = is_refused() ? NULL : __real_malloc(size);
-    held += made != NULL;
-    return made;
-}
-
-void *__wrap_realloc(void *old, size_t size) {
-    void *made = is_refused() ? NULL : __real_realloc(old, size);
-    held += made != NULL && old == NULL;
-    return made;
-}
-
-void __wrap_free(void *old) {
-    held -= old != NULL;
-    __real_free(old);
-}
-
 /* Whether the auditor was made with this allocation refused, if there is one. */
 static int is_made(struct msrp_auditor *auditor, long refused) {
     left = refused;

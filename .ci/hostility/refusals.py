@@ -45,7 +45,7 @@ def library(place):
 def ask_told(preloaded, words, program=PROGRAM, **how):
     """Runs the program over the library, which is told by these words, and what the library tells."""
     read, write = os.pipe()
-    environment = {"LD_PRELOAD": str(preloaded), "REFUSE_TELL": str(write), **{f"REFUSE_{name}".rstrip("_"): str(value) for name, value in how.items()}}
+    environment = {"LD_PRELOAD": str(preloaded), "MSRP_HINTS": "0", "REFUSE_TELL": str(write), **{f"REFUSE_{name}".rstrip("_"): str(value) for name, value in how.items()}}
     try:
         answer = ask(words, program, env=environment, pass_fds=(write,))
         os.set_blocking(read, False)

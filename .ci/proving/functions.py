@@ -75,8 +75,10 @@ class Source:
         self.file = str(path.relative_to(Path(TOP) / "crates" / crate))
         self.module = [part for part in Path(self.file).with_suffix("").parts[1:] if part not in ("lib", "main")]
         self.names = {}  # a word of this file, to the module and name of the definition
+        self.modules = {}  # a word of this file, to the module that it stands for
         for found in USE.finditer(self.text):
             module = (found.group(1), found.group(2))
+            self.modules |= {found.group(4): module} if found.group(4) else {}
             for name in filter(None, (found.group(3) or "").replace("\n", " ").split(",")):
                 there, _, here = name.strip().partition(" as ")
                 self.names[here or there] = (module, there)

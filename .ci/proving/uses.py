@@ -6,6 +6,7 @@ from .crates import LINES, TOP, is_program, is_static, text_of
 from .edits import MORE, edits_of
 
 CASE = re.compile(r"^(\.ci/\w+|docs/\S+?)(?:: (.*))?$")
+WORKED = re.compile(r"Examples|Broken|Handover")  # files of worked runs and boards
 FEW = 6  # a definition that more laws and examples cite says little of each
 README = "README"
 OF_SOURCES = {"build", "more", "steps", "traceability", "trusted", "unused"}  # scripts of the gate that run no program
@@ -40,8 +41,14 @@ class Uses:
         scripts = sorted(set(re.findall(r"\.ci/(\w+)", text_of(f"{TOP}/test"))) - OF_SOURCES)
         self.gate = {script: text_of(f"{TOP}/.ci/{script}") for script in scripts}
         self.covered = {name: list(cases(name)) for name in LINES}
-        laws = [it for it in names.all if it.is_law]
-        self.laws = [(it, set().union(*(names.cited(it, words) for _, words in it.clauses))) for it in laws]
+        laws = [(it, set().union(*(words for _, words in it.clauses))) for it in names.all if it.is_law]
+        self.laws = [(it, names.cited(it, words), self.is_worked(it, words)) for it, words in laws]
+
+    def is_worked(self, law, words):
+        """Whether the law is about worked runs or boards."""
+        modules = self.names.file_of[law.place()].modules
+        places = [at for (_, at), _ in self.names.cited(law, words)] + [modules[word][1] for word in words if word in modules]
+        return any(WORKED.search(at) for at in places)
 
     def called_by(self, test):
         """The functions that a test calls, by itself or by functions of its file."""
@@ -101,11 +108,11 @@ class Uses:
         return {program: [it for it, text in self.gate.items() if runs(text, program)] for program in self.programs}
 
     def examples_of(self, promise):
-        """For a law the worked runs that cite its definitions; only those that few cite, if there are such."""
+        """For a law the worked runs that cite its definitions, its own among them; only those that few cite, if there are such."""
         rare, every = [], []
         for item in sorted(self.names.definitions(promise)) if promise.is_law() else ():
-            citing = [(it, words) for it, words in self.laws if item in words and it not in promise.functions]
-            worked = [it for it, words in citing if any("Examples" in at for (_, at), _ in words)]
+            citing = [(it, is_worked) for it, cited, is_worked in self.laws if item in cited]
+            worked = [it for it, is_worked in citing if is_worked]
             every += worked
             rare += worked if len(citing) <= FEW else []
         return list(dict.fromkeys(rare or every))
