@@ -11,9 +11,9 @@ use Rattle.msrp_plan.specs.declared.rows.Row.{Row}
 abbrev pub resources : PlanModel → List ℕ
 resources plan = range_with_len 0 (length plan.resources)
 
--- the current ceiling of a core, by whether one of its jobs is queued for a global resource, and which resources its
--- jobs hold: the greatest of the ceilings of the local ones, and of the core's highest level while it is raised, that
--- is while a job is queued for a global resource or holds one; 0 where there is none
+-- the current ceiling of a core, by whether one of its jobs is queued for a global resource, and
+-- which resources its jobs hold: the greatest of the ceilings of the local ones and, while a job is
+-- queued for a global resource or holds one, of the core's highest level; 0 if there is none
 abbrev pub raised_with : PlanModel → Bool → (ℕ → Bool) → Bool
 raised_with plan queued held = queued || list_any (λ g. is_global plan g && held g) (resources plan)
 

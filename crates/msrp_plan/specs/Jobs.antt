@@ -12,7 +12,7 @@ use Rattle.msrp_plan.specs.declared.rows.Row.{Row}
 abbrev pub job_at : ℕ → ℕ → JobId
 job_at t k = record { task = record { 0 = t }; k = k }
 
--- the jobs of a task: those of its releases that come before the plan's last tick has passed
+-- the jobs of a task: of its releases before the plan's end
 abbrev pub jobs_of : PlanModel → ℕ → List JobId
 jobs_of plan t = filter (λ j. nat_lt (release plan j) plan.ticks) (map (job_at t) (range_with_len 0 plan.ticks))
 

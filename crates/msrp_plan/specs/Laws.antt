@@ -1,4 +1,4 @@
--- What every start of a legal run keeps, over whatever plan and whatever order of the cores.
+-- What holds of every start of a legal run, for every plan and every order of the cores.
 use Rattle.std.specs.Prelude.{ℕ, List, [], ◌∷◌, ◌++◌, Bool, true, false, ◌&&◌, Some, count_by, length, ◌≡◌, ◌≢◌, ◌≤◌, ◌-◌}
 use Rattle.std.specs.List.{list_any}
 use Rattle.msrp_plan.specs.Plan.{PlanModel}
@@ -20,8 +20,8 @@ use Rattle.msrp_plan.specs.declared.rows.Row.{Row}
 abbrev pub LocksFree : PlanModel → List Row → Row → Type 0
 LocksFree plan pre r = (g : ResId) (j : JobId) → r.kind ≡ Lock → r.res ≡ Some g → r.job ≢ Some j → holds plan pre g.0 j ≡ false
 
--- no job that has its turn ever waits for a local resource (Baker 1991: a job that has started
--- is not blocked)
+-- no job that runs ever waits for a local resource (Baker 1991: a job that has started is not
+-- blocked)
 abbrev pub NoLocalBlocking : PlanModel → List Row → Type 0
 NoLocalBlocking plan rows = EachAfter (LocksFree plan) [] rows
 
@@ -56,11 +56,11 @@ abbrev pub is_spin : Kind → Bool
 is_spin Spin = true
 is_spin _ = false
 
--- a row in which the job polls in vain
+-- a row in which the job polls and isn't granted
 abbrev pub is_spin_of : JobId → Row → Bool
 is_spin_of j r = is_row_of j r && is_spin r.kind
 
--- a wait: in row r job j joins the queue of the resource, and in none of the rows since is it granted it
+-- a wait: in row r job j joins the queue of the resource, and none of the rows since grants it
 pub record IsWait (r : Row) (since : List Row) (j : JobId) (g : ℕ) : Type 0 where
   pub job : r.job ≡ Some j
   pub resource : is_on g r.res ≡ true
@@ -71,8 +71,8 @@ pub record IsWait (r : Row) (since : List Row) (j : JobId) (g : ℕ) : Type 0 wh
 abbrev pub EachWait : List Row → (Row → List Row → JobId → ℕ → Type 0) → Type 0
 EachWait rows P = (pre : List Row) (r : Row) (since post : List Row) (j : JobId) (g : ℕ) → rows ≡ pre ++ r ∷ (since ++ post) → IsWait r since j g → P r since j g
 
--- while a job waits for a global resource, others come to hold it at most m - 1 times, on m cores (Gai,
--- Lipari and Di Natale 2001: requests are granted in their order, and of each core one at most stands)
+-- while a job waits for a global resource, others acquire it at most m - 1 times, on m cores (Gai,
+-- Lipari and Di Natale 2001: requests are granted in their order, and each core has at most one)
 abbrev pub BoundedOvertaking : PlanModel → List Row → Type 0
 BoundedOvertaking plan rows = EachWait rows (λ r since j g. count_by (is_acquisition g) since ≤ plan.cores - 1)
 

@@ -1,4 +1,5 @@
--- What the rules of a turn come to, in the words of scheduling, and that a run goes on in every order of turns.
+-- The consequences of the rules in the words of scheduling, and that a run continues in every order
+-- of turns.
 use Rattle.std.specs.Prelude.{ℕ, List, [], true, false, Some, count_by, length, ◌==◌, ◌≡◌, ◌≢◌, ◌↔◌, ◌<◌, ◌≤◌, ◌*◌, ◌/◌}
 use Rattle.std.specs.List.{Contains}
 use Rattle.msrp_plan.specs.Plan.{PlanModel, release}
@@ -27,7 +28,7 @@ RunsReleased plan rows = EachAfter (IsOfReleased plan) [] rows
 abbrev pub AllFinished : PlanModel → List Row → Row → Type 0
 AllFinished plan pre r = (j : JobId) → Contains (jobs_on plan r.core.0) j → release plan j ≤ r.tick → is_finished plan pre j ≡ true
 
--- the row is idle exactly there
+-- the row is idle exactly if they are
 abbrev pub IdlesLast : PlanModel → List Row → Row → Type 0
 IdlesLast plan pre r = (r.kind ≡ Idle) ↔ AllFinished plan pre r
 
@@ -42,7 +43,7 @@ pub record IsReady (plan : PlanModel) (pre : List Row) (r : Row) (j : JobId) : T
   pub released : release plan j ≤ r.tick
   pub unstarted : is_started pre j ≡ false
 
--- the head: of the jobs that are ready the first
+-- the head: the first of the ready jobs
 pub record IsHead (plan : PlanModel) (pre : List Row) (r : Row) (h : JobId) : Type 0 where
   pub ready : IsReady plan pre r h
   pub first : (j : JobId) → IsReady plan pre r j → is_before plan j h ≡ false
@@ -74,19 +75,19 @@ abbrev pub EarliestDeadlineFirst : PlanModel → List Row → Type 0
 EarliestDeadlineFirst plan rows = EachAfter (IsOfFirst plan) [] rows
 
 -- ---- existence
--- the core is due after these rows: it has not had its turn in the tick
+-- the core has a turn left in the tick
 pub record IsDueCore (plan : PlanModel) (pre : List Row) (c : ℕ) : Type 0 where
   pub core : c < plan.cores
   pub once : had_turn c (length pre / plan.cores) pre ≡ false
 
--- the core has a legal row next; if it is a queue row it carries how many stand ahead
+-- the core has a legal row next; if it is a queue row, it carries its ahead
 pub record HasNext (plan : PlanModel) (pre : List Row) (c : ℕ) : Type 0 where
   pub row : Row
   pub core : row.core.0 ≡ c
   pub legal : IsLegal plan pre row
   pub carries : carries_its_ahead row ≡ true
 
--- the core is due after these turns: it has had one in each full round of the cores
+-- the core has a turn left after these turns: it has had one in each full round of the cores
 pub record IsDueInOrder (plan : PlanModel) (pre : List ℕ) (c : ℕ) : Type 0 where
   pub core : c < plan.cores
   pub turns : count_by (λ d. d == c) pre ≡ length pre / plan.cores
@@ -96,7 +97,7 @@ pub record IsOrder (plan : PlanModel) (order : List ℕ) : Type 0 where
   pub size : length order ≡ plan.cores * plan.ticks
   pub each : EachAfter (IsDueInOrder plan) [] order
 
--- a legal run in that order whose queue rows carry how many stand ahead, and no other such run
+-- a legal run in that order whose queue rows carry their aheads, and no other such run
 pub record HasOneRun (plan : PlanModel) (order : List ℕ) : Type 0 where
   pub rows : List Row
   pub turns : core_order rows ≡ order

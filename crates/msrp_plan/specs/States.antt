@@ -1,4 +1,4 @@
--- How far a job is, in one record: what the choice and the next action look at.
+-- How far a job is, in one record, which the choice and the next action read.
 use Rattle.std.specs.Prelude.{ℕ, List, Bool, true, if◌then◌else◌, not, ◌+◌}
 use Rattle.msrp_plan.specs.Jobs.{is_row_of, is_waiting, is_started, is_queued, done}
 use Rattle.msrp_plan.specs.declared.ids.JobId.{JobId}
@@ -18,6 +18,6 @@ state_after pre j = record { job = j; started = is_started pre j; queued = is_qu
 abbrev pub moved_by : Row → JobState → JobState
 moved_by r s = record { job = s.job; started = true; queued = is_waiting r.kind; done = s.done + (if not (is_waiting r.kind) then 1 else 0) }
 
--- the state of any job after one row more
+-- the state of any job after one more row
 abbrev pub state_with : Row → JobState → JobState
 state_with r s = if is_row_of s.job r then moved_by r s else s

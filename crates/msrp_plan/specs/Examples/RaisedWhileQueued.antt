@@ -1,4 +1,5 @@
--- Who is queued for a global resource isn't preempted either: its core stands at its highest level from the request on.
+-- A job queued for a global resource isn't preempted either: the ceiling is the highest level from
+-- the request on.
 use Rattle.std.specs.Prelude.{List, [], ◌∷◌, codes}
 use Rattle.msrp_plan.specs.Plan.{PlanModel}
 use Rattle.msrp_plan.specs.Examples.Notation.{task, works, section, job, idle, run, take, queue, spin, grant, release, changed}

@@ -1,4 +1,5 @@
--- Two global resources in one run: each has a queue of its own, and a job asks for what its unit names.
+-- Two global resources in one run: each has its own queue, and a job requests the one that its unit
+-- names.
 use Rattle.std.specs.Prelude.{List, [], ◌∷◌, ◌++◌, codes}
 use Rattle.msrp_plan.specs.Plan.{PlanModel}
 use Rattle.msrp_plan.specs.Examples.Notation.{task, section, job, idle, run, take, queue, release, changed}

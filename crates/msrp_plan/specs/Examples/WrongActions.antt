@@ -1,4 +1,5 @@
--- The handover within a tick with replies that the job may not ask for: it is the action that is wrong, not the reply.
+-- The handover within a tick with replies to questions that the job can't ask: the action is wrong,
+-- not the reply.
 use Rattle.std.specs.Prelude.{List}
 use Rattle.msrp_plan.specs.Examples.Notation.{job, take, spin, changed}
 use Rattle.msrp_plan.specs.Examples.HandoverWithinATick.{rows}

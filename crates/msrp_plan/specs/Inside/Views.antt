@@ -1,4 +1,4 @@
--- What a clause sees of a plan and of a draft as they are stored.
+-- What a clause sees of a stored plan and of a stored draft.
 use Rattle.std.specs.Prelude.{ℕ, List, Some, map, length, string_bytes, ◌≡◌, ◌<◌, ◌+◌}
 use Rattle.msrp_plan.specs.Plan.{PlanModel, task_at}
 use Rattle.msrp_plan.specs.Units.{held_after}
