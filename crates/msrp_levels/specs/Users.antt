@@ -1,4 +1,4 @@
--- What is asked of a plan beside levels and local ceilings.
+-- The users of a resource, and its ceiling at a core.
 use Rattle.msrp_plan.specs.Common.{ℕ, List, length, range_with_len, PlanModel, task_at, uses, is_global, local_ceiling, top}
 use Rattle.std.specs.Prelude.{if◌then◌else◌, filter}
 
