@@ -1,8 +1,7 @@
 //! The auditor: it accepts exactly the legal runs, and names the first row that violates a rule.
 //!
 //! [`audit`] judges a whole trace. [`audit_parallel`] does so in pieces, which threads share, and
-//! [`audit_gathered`] the same with rows that are [`Gathered`]. An [`Auditor`] judges rows as they
-//! arrive.
+//! [`audit_gathered`] does with [`Gathered`] rows. An [`Auditor`] judges rows as they arrive.
 #![tactic(auto)]
 
 mod auditor;
