@@ -1,4 +1,4 @@
--- What a worker is given, and what it gives back.
+-- What a worker is given, and what it returns.
 use Rattle.std.specs.Prelude.{◌≡◌, ◌⊎◌}
 use Rattle.msrp_plan.specs.Common.{ℕ, [], length, true, carries_ahead, PlanModel, CoreRun}
 use Rattle.msrp_board.specs.declared.answers.SeatPhase.TheVariants.{Waiting, Done, Stopped}
@@ -57,7 +57,7 @@ pub record IsWhole (plan : PlanModel) (c : ℕ) (log : LogModel) (b : Book) : Ty
   pub fits : Fits log.turns b.entries
   pub done : phase_in plan.ticks b ≡ Done
 
--- the log of a core that was told to stop: it is empty
+-- the log of a core that saw the stop: it is empty
 pub record IsStopped (plan : PlanModel) (c : ℕ) (log : LogModel) (b : Book) : Type 0 where
   pub core : log.core ≡ c
   pub empty : log.turns ≡ []
@@ -67,7 +67,7 @@ pub record IsStopped (plan : PlanModel) (c : ℕ) (log : LogModel) (b : Book) : 
 abbrev pub IsWorked : PlanModel → ℕ → LogModel → Book → Type 0
 IsWorked plan c log b = IsWhole plan c log b ⊎ IsStopped plan c log b
 
--- what the worker of a core gives back: its log, and the same core's seat on the same board
+-- what the worker of a core returns: its log, and the same core's seat on the same board
 pub record HasWorked (board : BoardModel) (plan : PlanModel) (c : ℕ) (log : LogModel) (seat : SeatModel) : Type 0 where
   pub on : seat.board ≡ board
   pub book : Book
