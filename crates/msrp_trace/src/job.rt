@@ -7,7 +7,7 @@ ghost use Rattle.msrp_trace.specs.Lines.{IsJobText, job_fields};
 use crate::text::Text;
 use msrp_plan::{JobId, Plan, TaskId};
 
-// The greatest length: two commas, a name of at most 16 letters, a number of at most 10 digits.
+// Enough for two commas, a name of at most 16 letters, and a number of at most 10 digits.
 const JOB: usize = 32;
 
 /// A job that a core ran, and its two fields in a record, made again only for another job.

@@ -14,7 +14,7 @@ use msrp_plan::limits::MOST_RESOURCES;
 use msrp_plan::{CoreId, JobId, Kind, Plan, ResId, Row, TextVersion};
 use std::marker::Model;
 
-// The greatest length of a record: a number has at most 10 digits, a name at most 16 letters.
+// Enough for a record: a number has at most 10 digits, a name at most 16 letters.
 pub(crate) const LINE: usize = 80;
 
 /// The text of a record, as far as it is made.

@@ -10,7 +10,7 @@ use msrp_plan::limits::MOST_RESOURCES;
 use msrp_plan::{Plan, ResId};
 use std::array;
 
-// The greatest length: a comma, and a name of at most 16 letters.
+// Enough for a comma and a name of at most 16 letters.
 const RES: usize = 24;
 
 /// A resource, and its field in a record.
