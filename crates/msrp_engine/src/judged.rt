@@ -283,7 +283,7 @@ impl<'p, 't, T: Read> JudgedRows<'p, 't, T> {
         self.next_by(false)
     }
 
-    /// The same, and [`JudgedRows::state`] then tells what decided before that row who had its core's turn.
+    /// As [`JudgedRows::next_row`]; [`JudgedRows::state`] then has what decided before that row.
     #[inline(never)]
     pub fn next_with_state(&mut self) -> Result<Judgement, TraceError>
         ensures plan { self.new.auditor.plan ≡ self.old.auditor.plan }
