@@ -1,6 +1,7 @@
-//! Tests of the crates that know the policy: plans, levels, the parts of a core, and an auditor that is fed row by row.
+//! Tests of the crates of the policy: plans, levels, the parts of a core, and an auditor fed row by
+//! row.
 //!
-//! They stand above those crates, which are proved once, without them.
+//! They are in a crate above those, which are proved once, without them.
 #![tactic(auto)]
 
 #[cfg(test)]
