@@ -1,4 +1,4 @@
-//! Words on a trace, and on a plan.
+//! The explanation of a verdict, and of a plan's refusal, in sentences.
 ghost use Rattle.std.specs.Prelude.{◌||◌};
 ghost use Rattle.msrp_plan.specs.Common.{IfOk, Err};
 ghost use Rattle.msrp_text.specs.Reading.{csv_records, plan_of};
@@ -14,7 +14,7 @@ use msrp_plan::bytes::Source;
 use msrp_view_engine::{Words, why_of_plan, why_of_texts};
 use std::alloc::Global;
 
-// The words on a trace.
+// The explanation of a trace's verdict.
 fn explained(alloc: Global, plan: &[u8], trace: &[u8]) -> Result<Made, CliFault>
     ensures { OrUnread result (IsWhyOf (plan_of (csv_records plan.now)) (csv_records trace.now) result) }
 {
@@ -23,7 +23,8 @@ fn explained(alloc: Global, plan: &[u8], trace: &[u8]) -> Result<Made, CliFault>
     why_of_texts(alloc, &mut plan, &mut trace)
 }
 
-/// The verdict on a trace, and in plain sentences what makes it so; of a legal trace what its run exercised. A refused text has no words.
+/// The verdict on a trace, and in plain sentences why; for a legal trace what its run exercised. A
+/// refused text has none.
 #[unsafe(no_mangle)]
 pub extern "C" fn msrp_why(
     alloc: Global,
@@ -42,7 +43,7 @@ pub extern "C" fn msrp_why(
     hand_over(unfailed(made), text, needed, found)
 }
 
-// The words on a plan.
+// The sentences on a plan.
 fn advised(alloc: Global, plan: &[u8]) -> Result<Words, CliFault>
     ensures words { AreWords plan.now result }
     ensures plan { IfOk result (λ words. IsOnPlan words.found) }
@@ -51,7 +52,7 @@ fn advised(alloc: Global, plan: &[u8]) -> Result<Words, CliFault>
     why_of_plan(alloc, "plan", &mut plan)
 }
 
-// Hands words over, or tells why there are none.
+// Hands sentences over, or reports why there are none.
 fn hand_words(
     words: Result<Words, CliFault>,
     text: &mut [u8],
@@ -66,7 +67,7 @@ fn hand_words(
     }
 }
 
-/// The words on a plan: why it is refused, or what is odd in it. A refused plan has words too.
+/// The sentences on a plan: why it is refused, or what is odd in it. A refused plan has some too.
 #[unsafe(no_mangle)]
 pub extern "C" fn msrp_why_plan(
     alloc: Global,
