@@ -1,4 +1,4 @@
--- The rule of a board: what holds of its words and of the books of all its seats between any two steps.
+-- The rule of a board, on its words and the books of all seats, between any two steps.
 use Rattle.msrp_plan.specs.Common.{ℕ, List, length, true, slice_index, Some, slice_get, slice_index_or}
 use Rattle.std.specs.Prelude.{◌≡◌, ◌+◌, ◌<◌, ◌≤◌, sum_by}
 use Rattle.msrp_board.specs.declared.books.Entry.{Entry}
@@ -11,8 +11,8 @@ use Rattle.msrp_board.specs.History.{Event, IsServed}
 use Rattle.msrp_board.specs.Words.{high, low}
 use Rattle.msrp_board.specs.Seats.{empty_book}
 
--- a whole board: its ticket words, that of resource 0 first, its barrier word, all its books, that of core 0 first,
--- and the conductor's
+-- a whole board: its ticket words, from resource 0 on, its barrier word, all its books, from core 0
+-- on, and the conductor's
 pub record WholeBoard : Type 0 where
   pub size : BoardSize
   pub tickets : List ℕ

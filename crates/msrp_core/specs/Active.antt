@@ -94,7 +94,7 @@ pub record HoldsGlobal (plan : PlanModel) (g : ResId) (s : ActiveJob) : Type 0 w
   pub has : list_any (nat_eq g.0) s.held ≡ true
   pub one : (h : ℕ) → list_any (nat_eq h) s.held ≡ true → is_global plan h ≡ true → h ≡ g.0
 
--- its next unit locks this global resource, which counts as held already; the others that it holds are local
+-- its next unit locks this global resource, which already counts as held; its other ones are local
 pub record AwaitsGlobal (plan : PlanModel) (g : ResId) (s : ActiveJob) : Type 0 where
   pub unit : slice_get (units plan s.job) s.done ≡ Some (Lock g)
   pub global : is_global plan g.0 ≡ true

@@ -8,7 +8,7 @@ use Rattle.msrp_text.specs.PlanText.{record_text}
 abbrev pub level_record : PlanModel → ℕ → List (List ℕ)
 level_record plan t = codes "level" ∷ (task_at plan t).name ∷ decimal (level plan t) ∷ []
 
--- whether a resource is global, and its ceiling; a global one has none of its own, but the top of each core
+-- whether a resource is global, and its ceiling; a global one has none but the top of each core
 abbrev pub ceiling_fields : PlanModel → ℕ → List (List ℕ)
 ceiling_fields plan g = if is_global plan g then codes "global" ∷ codes "-" ∷ [] else codes "local" ∷ decimal (local_ceiling plan g) ∷ []
 

@@ -1,7 +1,8 @@
 //! The rows of a trace's text, each judged as it is read.
 //!
-//! The text says which core's row is next. That core runs, which gives its one legal row, and the text of that row is compared with the text that is
-//! next. So a legal row is never read field by field. As long as a core's rows differ in their ticks alone, its text is made once.
+//! The text says which core's row is next. That core's machine gives its one legal row, whose text
+//! is compared with the text that is next. So no legal row is read field by field, and while a
+//! core's rows differ only in the tick, its text is made once.
 ghost use Rattle.std.specs.Prelude.{◌≡◌, ◌<◌, ◌*◌, ◌/◌, ◌%◌};
 ghost use Rattle.msrp_plan.specs.Common.{ℕ, List, IfSome, Some, None, Ok, Err, true, false, source_failed, IsPlan, is_in_turn, IsSomeAnd, length, in_tick};
 ghost use Rattle.msrp_audit.specs.Audits.{Awaits, HasFed, IsDueInAudit};
@@ -56,7 +57,7 @@ impl Judgement {
 pub struct JudgedRows<'p, 't, T> {
     auditor: Auditor<'p>,
     rows: TraceReader<'t, T>,
-    // Of each core its last row that was chosen, and the text of that, but for the tick.
+    // Each core's last chosen row, and its text without the tick.
     lasts: [Option<Row>; MOST_CORES as usize],
     texts: RowTexts<'p>,
     // What decided before the last row who had its core's turn, if that was asked.
@@ -124,7 +125,7 @@ impl<'p, 't, T: Read> JudgedRows<'p, 't, T> {
         &self.rows
     }
 
-    /// What decided before the last row who had its core's turn, as [`JudgedRows::next_with_state`] found it.
+    /// What decided before the last row, if [`JudgedRows::next_with_state`] read it.
     pub fn state(&self) -> Option<CoreState>
         ensures { result ≡ self.now.state }
     {
@@ -160,7 +161,7 @@ impl<'p, 't, T: Read> JudgedRows<'p, 't, T> {
         self.texts.show(&self.rows.as_read(expected));
     }
 
-    // The core's next row: its last one in the next tick, where that is known, or one that is chosen.
+    // The core's next row: its last one in the next tick, if that is known, or a chosen one.
     #[inline(always)]
     fn expect(&mut self, core: CoreId)
         requires accepted { IsPlan self.old.auditor.plan }
@@ -307,7 +308,7 @@ impl<'p, 't, T: Read> JudgedRows<'p, 't, T> {
         ensures state { asked ≡ true → (rows : List TraceRow) → HasFed self.old.auditor rows → self.old.auditor.fault ≡ None → IfCame (λ row. IsStateAfter self.old.auditor.plan rows row.core.0 self.new.state) result }
     {
         let tick = self.auditor.tick();
-        // What is read by fields has a place of its own: so a row that is met is laid down nowhere.
+        // Rows that are read by fields have their own place, so no other row is built in memory.
         let judged;
         let Some(core) = self.rows.core_ahead(tick) else {
             judged = self.read(asked);

@@ -32,7 +32,7 @@ head system jobs c = first_of system jobs c false
 abbrev pub running : PlanModel → List LiveJob → ℕ → Option LiveJob
 running system jobs c = first_of system jobs c true
 
--- the current ceiling of the core: by the resources that its jobs hold, and whether one of them waits for a global one
+-- the core's current ceiling, from what its jobs hold, and whether one waits for a global resource
 abbrev pub ceiling : PlanModel → List LiveJob → ℕ → ℕ
 ceiling system jobs c = ceiling_with system c (list_any (λ j. is_on system c j && j.waits) jobs) (λ g. list_any (λ j. is_on system c j && holds system g j) jobs)
 

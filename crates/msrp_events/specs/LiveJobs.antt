@@ -12,7 +12,7 @@ use Rattle.msrp_plan.specs.declared.ids.JobKey.{JobKey}
 use Rattle.msrp_plan.specs.declared.units.Op.{Op}
 use Rattle.msrp_events.specs.declared.states.LiveJob.{LiveJob}
 
--- the key that jobs are ordered by: absolute deadline, release by the deadline, task number, job number
+-- the key of a job: absolute deadline, release by the deadline, task number, job number
 abbrev pub live_key : PlanModel → LiveJob → JobKey
 live_key system j = record { deadline = j.deadline; release = j.deadline - (task_of system j.job).deadline; task = j.job.task.0; k = j.job.k }
 

@@ -54,7 +54,8 @@ abbrev pub acts_late : Tolerances → ℕ → CoreLog → Bool
 acts_late tolerances now c = is_some c.since && (is_reached c.since tolerances.slack now && is_reached c.acted (tolerances.operation + tolerances.slack) now)
 
 -- ---- the rules of a step
--- E9: the step is the job's next one; only a waiting job acquires or polls, and only one that doesn't wait does anything else
+-- E9: the step is the job's next one; only a waiting job acquires or polls, and it does nothing
+-- else
 abbrev pub is_next_step : PlanModel → LockAction → ℕ → LiveJob → Bool
 is_next_step system Lock g j = not j.waits && (locks_next g (next_unit system j) && not (is_global system g))
 is_next_step system Unlock g j = not j.waits && (unlocks_next g (next_unit system j) && not (is_global system g))

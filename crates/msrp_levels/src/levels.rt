@@ -93,8 +93,8 @@ impl<'a> Levels<'a> {
         self.plan.is_global(res)
     }
 
-    /// The ceiling of a resource at a core: of a local one the highest level of its users, 0 if there is none
-    /// (Baker 1991); of a global one the highest level of the core's tasks (Gai, Lipari and Di Natale 2001).
+    /// The ceiling of a resource at a core: for a local one the highest level of its users, or 0
+    /// (Baker 1991); for a global one the core's highest level (Gai, Lipari and Di Natale 2001).
     pub fn ceiling(&self, res: ResId, core: CoreId) -> u32
         requires res { res.0 < length self.now.resources }
         requires core { core.0 < self.now.cores }

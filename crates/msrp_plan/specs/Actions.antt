@@ -27,7 +27,7 @@ is_global_unit plan RunUnit = false
 is_global_unit plan (LockUnit g) = is_global plan g.0
 is_global_unit plan (UnlockUnit g) = is_global plan g.0
 
--- the kinds of row that a unit allows, by whether its resource is global, and whether its job is queued
+-- the kinds of row that a unit allows, if its resource is global or not, its job queued or not
 abbrev pub allows : Bool → Bool → Op → Kind → Bool
 allows global queued RunUnit Run = true
 allows false queued (LockUnit g) Lock = true

@@ -21,7 +21,7 @@ abbrev pub is_later : PlanModel → JobId → Option JobId → Bool
 is_later plan j None = false
 is_later plan j (Some k) = is_before plan j k
 
--- the row is of a later job of j's core, in a tick at or after j's release, and j isn't finished before it
+-- the row is of a later job of j's core, at or after j's release, and j isn't finished before it
 abbrev pub blocks : PlanModel → JobId → List Row → Row → Bool
 blocks plan j pre r = (r.core.0 == core_of plan j) && (is_released plan r.tick j && (not (is_finished plan pre j) && is_later plan j r.job))
 
@@ -48,7 +48,7 @@ is_amid plan pre k = is_queued pre k || in_section plan (units plan k) (done k p
 abbrev pub section_of : PlanModel → List Row → JobId → ℕ
 section_of plan pre k = section_start plan (units plan k) (done k pre)
 
--- the row is one of job k in its outermost section that unit a begins, after the section's first row
+-- the row is job k's, after the first one of the outermost section that unit a begins
 abbrev pub continues : PlanModel → JobId → ℕ → List Row → Row → Bool
 continues plan k a pre r = is_row_of k r && (is_amid plan pre k && (section_of plan pre k == a))
 
@@ -81,7 +81,8 @@ HasBlockers plan pre r = (j : JobId) → Contains (jobs plan) j → blocks plan 
 abbrev pub BlockedByBegunSections : PlanModel → List Row → Type 0
 BlockedByBegunSections plan rows = EachAfter (HasBlockers plan) [] rows
 
--- the row, if it blocks j, is one of job k in its outermost section that unit a begins, after the section's first row
+-- the row, if it blocks j, is job k's, after the first one of the outermost section that unit a
+-- begins
 abbrev pub BlocksFrom : PlanModel → JobId → JobId → ℕ → List Row → Row → Type 0
 BlocksFrom plan j k a pre r = blocks plan j pre r ≡ true → continues plan k a pre r ≡ true
 

@@ -1,4 +1,4 @@
--- Bounds that a plan gives: how long sections are, how often a job spins, and how long it is blocked.
+-- A plan's bounds: how long sections are, how often a job spins, and how long it is blocked.
 use Rattle.std.specs.Prelude.{ℕ, List, [], ◌∷◌, Bool, ◌==◌, ◌&&◌, not, nat_lt, if◌then◌else◌, filter, map, max, count_by, length, take, slice_get, Option, Some, ◌+◌}
 use Rattle.std.specs.List.{list_any, range_with_len, sum_by}
 use Rattle.msrp_plan.specs.Plan.{PlanModel, TaskModel}
@@ -39,7 +39,7 @@ spin_bound plan g c = sum_by (λ d. 1 + section plan g d) (filter (λ d. not (d 
 abbrev pub in_section : PlanModel → List Op → ℕ → Bool
 in_section plan us n = list_any (holds_after (take n us)) (resources plan)
 
--- the unit that begins the outermost section of unit n: the last one up to n before which nothing is held
+-- the first unit of unit n's outermost section: the last one up to n before which nothing is held
 abbrev pub section_start : PlanModel → List Op → ℕ → ℕ
 section_start plan us n = greatest (filter (λ i. not (in_section plan us i)) (range_with_len 0 (n + 1)))
 

@@ -24,7 +24,7 @@ empty_plan cores ticks = record { cores = cores; ticks = ticks; resources = []; 
 abbrev pub with_resource : PlanModel → List ℕ → PlanModel
 with_resource plan name = record plan { resources = plan.resources ++ name ∷ [] }
 
--- a task as it is declared, by its name, core, release times and relative deadline: it has no unit yet
+-- a declared task, from its name, core, release times and relative deadline: it has no unit yet
 abbrev pub new_task : List ℕ → ℕ → ReleaseTimes → ℕ → TaskModel
 new_task name core times deadline = record { name = name; core = core; times = times; deadline = deadline; units = [] }
 

@@ -1,5 +1,5 @@
--- The current ceiling of a core (Baker 1991, current ceiling; Gai, Lipari and Di Natale 2001, the MSRP rules: a core is
--- at its highest level from the request of a global resource to its release).
+-- The current ceiling of a core (Baker 1991; Gai, Lipari and Di Natale 2001, the MSRP rules: it is
+-- the core's highest level from the request of a global resource to its release).
 use Rattle.std.specs.Prelude.{ℕ, List, Bool, ◌&&◌, ◌||◌, not, if◌then◌else◌, filter, map, length, max}
 use Rattle.std.specs.List.{list_any, range_with_len}
 use Rattle.msrp_plan.specs.Plan.{PlanModel}

@@ -67,7 +67,7 @@ pub record IsWait (r : Row) (since : List Row) (j : JobId) (g : ℕ) : Type 0 wh
   pub joins : r.kind ≡ Queue
   pub waits : list_any (is_grant_of j g) since ≡ false
 
--- this holds of each wait of the rows: of the row that begins it, the rows since, the job and the resource
+-- this holds of each wait: of the row that begins it, the rows since, the job and the resource
 abbrev pub EachWait : List Row → (Row → List Row → JobId → ℕ → Type 0) → Type 0
 EachWait rows P = (pre : List Row) (r : Row) (since post : List Row) (j : JobId) (g : ℕ) → rows ≡ pre ++ r ∷ (since ++ post) → IsWait r since j g → P r since j g
 
@@ -81,13 +81,14 @@ BoundedOvertaking plan rows = EachWait rows (λ r since j g. count_by (is_acquis
 abbrev pub FindsShort : PlanModel → List Row → Row → Type 0
 FindsShort plan pre r = (g : ℕ) → r.kind ≡ Queue → is_on g r.res ≡ true → length (fifo g pre) ≤ plan.cores - 1
 
--- no job joins a queue longer than m - 1, on m cores (Gai, Lipari and Di Natale 2001: a core has one request at most)
+-- no job joins a queue longer than m - 1, on m cores (Gai, Lipari and Di Natale 2001: one request a
+-- core)
 abbrev pub ShortQueues : PlanModel → List Row → Type 0
 ShortQueues plan rows = EachAfter (FindsShort plan) [] rows
 
 -- ---- bounded spinning
--- in one wait for a global resource a job spins no more often than the bound of its core: all spins of the job
--- count, since it spins on nothing else then
+-- in one wait for a global resource a job spins at most as often as its core's bound: all spins of
+-- the job count, since it spins on nothing else then
 abbrev pub BoundedSpinning : PlanModel → List Row → Type 0
 BoundedSpinning plan rows = EachWait rows (λ r since j g. count_by (is_spin_of j) since ≤ spin_bound plan g r.core.0)
 

@@ -19,7 +19,7 @@ abbrev pub first_holds : PlanModel → List Row → ℕ → List JobId → Bool
 first_holds plan pre g [] = false
 first_holds plan pre g (j ∷ js) = holds plan pre g j
 
--- the lock after these rows: the cores of the resource's queue, and whether the first of it holds the resource
+-- the lock after these rows: the cores of the resource's queue, and whether the first one holds it
 abbrev pub lock_at : PlanModel → ℕ → List Row → FifoLock
 lock_at plan g pre = record { queue = map (core_of plan) (fifo g pre); granted = first_holds plan pre g (fifo g pre) }
 
@@ -27,7 +27,7 @@ lock_at plan g pre = record { queue = map (core_of plan) (fifo g pre); granted =
 abbrev pub lock_from : FifoLock → List (ℕ × Call) → FifoLock
 lock_from lock calls = fold (λ before s. lock_after before s.0 s.1) lock calls
 
--- the row is one that a core's call of the resource makes; the ahead that it carries, if it does, is the call's
+-- the row is made by a core's call of the resource; an ahead that it carries is the call's
 pub record IsRowOfCall (g : ℕ) (c : ℕ) (call : Call) (r : Row) : Type 0 where
   pub core : r.core.0 ≡ c
   pub resource : r.res ≡ Some (record { 0 = g })

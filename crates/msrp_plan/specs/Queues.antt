@@ -1,5 +1,5 @@
--- The queue of a global resource, and what it answers (Gai, Lipari and Di Natale 2001, the MSRP rules: requests are
--- served in the order in which they came).
+-- The queue of a global resource, and its answers (Gai, Lipari and Di Natale 2001, the MSRP rules:
+-- requests are served in their order).
 use Rattle.std.specs.Prelude.{ℕ, List, [], ◌∷◌, Bool, true, false, ◌==◌, ◌&&◌, not, Option, Some, None, if◌then◌else◌, filter_map, count_by, drop, length}
 use Rattle.std.specs.List.{list_any}
 use Rattle.msrp_plan.specs.Jobs.{is_job}

@@ -3,7 +3,7 @@ use Rattle.std.specs.Prelude.{ℕ, List, [], ◌∷◌, ◌++◌, All, Bool, tru
 use Rattle.std.specs.List.Sorted.{IsStrictlyIncreasing}
 use Rattle.msrp_plan.specs.Limits.{most_releases, longest_time}
 
--- once in each period from an offset on (Liu and Layland 1973, the environment), or at the ticks of a list
+-- once a period from an offset on (Liu and Layland 1973, the environment), or at listed ticks
 pub data ReleaseTimes : Type 0 where
   Every : ℕ → ℕ → ReleaseTimes
   Listed : List ℕ → ReleaseTimes

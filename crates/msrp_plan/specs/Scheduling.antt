@@ -54,14 +54,14 @@ pub record IsActive (plan : PlanModel) (pre : List Row) (r : Row) (j : JobId) : 
   pub started : is_started pre j ≡ true
   pub unfinished : is_finished plan pre j ≡ false
 
--- job x may start: it comes before every other job that is ready and before every job that is active, and its level is
+-- job x may start: it comes before every other ready job and every active job, and its level is
 -- above the core's ceiling
 pub record MayStart (plan : PlanModel) (pre : List Row) (r : Row) (x : JobId) : Type 0 where
   pub first : (j : JobId) → IsReady plan pre r j → j ≢ x → is_before plan x j ≡ true
   pub preempts : (j : JobId) → IsActive plan pre r j → is_before plan x j ≡ true
   pub above : ceiling plan r.core.0 pre < level plan x.task.0
 
--- job x may go on: no job that is active comes before it, and the head, if it comes before x, isn't above the core's ceiling
+-- job x may go on: no active job comes before it, and if the head does, it isn't above the ceiling
 pub record MayGoOn (plan : PlanModel) (pre : List Row) (r : Row) (x : JobId) : Type 0 where
   pub first : (j : JobId) → IsActive plan pre r j → is_before plan j x ≡ false
   pub blocked : (h : JobId) → IsHead plan pre r h → is_before plan h x ≡ true → level plan h.task.0 ≤ ceiling plan r.core.0 pre

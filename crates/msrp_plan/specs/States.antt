@@ -14,7 +14,7 @@ pub record JobState : Type 0 where
 abbrev pub state_after : List Row → JobId → JobState
 state_after pre j = record { job = j; started = is_started pre j; queued = is_queued pre j; done = done j pre }
 
--- the state of the row's own job after the row: it is started, and either waits or has done one unit more
+-- the state of the row's job after the row: started, and either waiting or with one more unit done
 abbrev pub moved_by : Row → JobState → JobState
 moved_by r s = record { job = s.job; started = true; queued = is_waiting r.kind; done = s.done + (if not (is_waiting r.kind) then 1 else 0) }
 

@@ -39,8 +39,8 @@ pub enum PlanFault {
     /// P9: a core's number isn't below the number of cores.
     #[error("P9: a core is not below the number of cores")]
     Core,
-    /// P10: a lock of a resource that the task holds, an unlock of one that is not the innermost it holds,
-    /// or a resource that is still held at the task's end.
+    /// P10: a lock of a resource that the task holds, an unlock of one that isn't the innermost, or
+    /// a resource still held at the task's end.
     #[error("P10: locks and unlocks do not nest")]
     Nesting,
     /// P11: a global resource is locked while a global one is held.
@@ -80,7 +80,8 @@ impl<T: Drop> From<AllocFailed<T>> for PlanFault {
 }
 
 impl PlanFault {
-    /// The number after P of the code: 1 for [`PlanFault::Version`] to 16 for [`PlanFault::Memory`].
+    /// The number after P of the code, 1 for [`PlanFault::Version`] to 16 for
+    /// [`PlanFault::Memory`].
     pub fn code(self) -> u32
         ensures { result ≡ code_of self }
     {

@@ -78,7 +78,8 @@ fn found(alloc: Global, text: &[u8], calls: &[Call]) -> Result<Found, Fail> {
     Ok((wrong, ready.compared(), ready.tick()))
 }
 
-// The task y is declared first and released last: both absolute deadlines are 10, and the release decides.
+// Task y is declared first and released last: both absolute deadlines are 10, so the release
+// decides.
 #[test]
 fn equal_deadlines_go_by_release(rt: HostRuntime) -> Result<(), Fail> {
     let text = b"msrp,1\ncores,1\nticks,8\ntask,y,0,20,8,2\nop,run,1\ntask,x,0,20,10,0\nop,run,1\n";

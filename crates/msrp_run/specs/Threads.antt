@@ -79,7 +79,8 @@ pub record HasEnded (board : BoardModel) (plan : PlanModel) (ended : Ended) : Ty
 abbrev pub AreDone : ℕ → List Book → Type 0
 AreDone ticks books = (c : ℕ) (b : Book) → slice_get books c ≡ Some b → phase_in ticks b ≡ Done
 
--- all cores were let in and have ended: their logs are runs of the cores, which carry their aheads and fit the board's books
+-- all cores were let in and have ended: their logs are runs of the cores, carry aheads and fit the
+-- board's books
 pub record HasRun (plan : PlanModel) (logs : List LogModel) (board : WholeBoard) : Type 0 where
   pub logs_are : AreLogs plan logs (entries_at board.books)
   pub aheads : (c : ℕ) → c < plan.cores → carries_ahead (rows_of (turns_of logs c)) ≡ true

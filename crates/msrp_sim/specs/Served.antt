@@ -16,8 +16,8 @@ AreFifo calls = (g : ℕ) → Legal (calls_on g calls)
 abbrev pub lock_after_calls : List PortCall → ℕ → FifoLock
 lock_after_calls calls g = lock_from free_lock (calls_on g calls)
 
--- a port that serves requests in their order: the calls so far, how many more each core may make, by number, and the
--- number of resources
+-- a port that serves requests in their order: the calls so far, each core's room for more, by
+-- number, and the number of resources
 pub record FifoModel : Type 0 where
   pub calls : List PortCall
   pub rooms : List ℕ

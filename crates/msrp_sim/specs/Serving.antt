@@ -33,7 +33,8 @@ is_served q c g = ticket_of q c == (queue_of q g).serving
 abbrev pub AreDrawn : Queues → ℕ → Type 0
 AreDrawn q n = (g : ℕ) → ((queue_of q g).next ≤ n) × ((queue_of q g).serving ≤ n)
 
--- each core holds or awaits what its claim and the locks say, and the tickets of each resource are those of its lock
+-- each core holds or awaits what its claim and the locks say, and a resource's tickets are its
+-- lock's
 pub record IsServing (locks : ℕ → FifoLock) (claims : ℕ → Phase) (q : Queues) : Type 0 where
   pub stances : (c : ℕ) → IsClaim locks c (claims c)
   pub tickets : (g : ℕ) → IsTicketed (locks g).queue (queue_of q g).next (queue_of q g).serving (ticket_of q)

@@ -10,7 +10,7 @@ use Rattle.msrp_text.specs.declared.front.Front.TheVariants as front
 abbrev pub is_mark : ℕ → Bool
 is_mark b = (b == 34) || ((b == 13) || (b == 10))
 
--- a line that isn't empty, doesn't begin as a byte order mark does, and has no quote and no line end in it
+-- a line that isn't empty, doesn't begin like a byte order mark, and has no quote and no line end
 abbrev pub is_plain : List ℕ → Bool
 is_plain [] = false
 is_plain (b ∷ rest) = not (b == 239) && not (list_any is_mark (b ∷ rest))

@@ -49,11 +49,12 @@ fn by_csv<R: Read>(way: Way<R>, alloc: Global) -> (Way<R>, ())
     }
 }
 
-/// The records of a text: fields between commas, no header row, records of any length, an empty line is no
-/// record.
+/// The records of a text: comma-separated fields, no header row, any number of fields; an empty
+/// line is no record.
 ///
-/// Plain lines are taken as they stand. A plain line isn't empty, has no quote, doesn't begin as a byte order mark does, is shorter than
-/// [`LONGEST`], and ends with LF, CR or CRLF. The first line that isn't plain and all that comes after it is read by `csv`.
+/// Plain lines are taken where they are: lines without a quote or a byte order mark, not empty,
+/// shorter than [`LONGEST`], that end with LF, CR or CRLF. `csv` reads the first other line and all
+/// that follows.
 #[derive(Drop)]
 pub struct RecordReader<R> {
     alloc: Global,
@@ -86,8 +87,8 @@ impl<R: Read> RecordReader<R> {
         }
     }
 
-    /// How many empty lines stand before the record that was read last. It is known as long as `csv` reads none, and of the first that it reads
-    /// mostly; each record before took one line then.
+    /// The number of empty lines before the record read last. Known until `csv` reads, and mostly
+    /// for the first record that it reads; until then each record took one line.
     pub fn empty_lines(&self) -> Option<u32>
         ensures value { result ≡ empty_before self.now }
         ensures line { (bytes : List ℕ) (number empty : ℕ) → HasRead R.remaining bytes number self.now → 1 ≤ number → result ≡ Some empty → BeginsIn bytes number (number + empty) }
@@ -133,7 +134,8 @@ impl<R: Read> RecordReader<R> {
         self.meets_apart(front, line)
     }
 
-    // The same, where the first text may not come, and the line may end in another way than by a line feed.
+    // As `meets_behind`, if the first text may not be next, or the line may end without a line
+    // feed.
     #[inline(never)]
     fn meets_apart(&mut self, front: &[u8], line: &[u8]) -> bool
         ensures taken { result ≡ true → (rest : List ℕ) → line.now ≡ rest ++ codes "\n" → is_plain (front.now ++ rest) ≡ true → GivesLine (records_left R.remaining self.old) (split_commas (front.now ++ rest)) (records_left R.remaining self.new) }
@@ -211,7 +213,8 @@ impl<R: Read> RecordReader<R> {
         }
     }
 
-    /// Takes so many of the bytes that were read ahead: a plain line with its end. Its fields were the next record.
+    /// Takes bytes that were read ahead: a plain line with its end, whose fields were the next
+    /// record.
     #[inline]
     pub(crate) fn take_line(&mut self, count: usize)
         requires count { count ≤ length (bytes_ahead self.old) }
@@ -261,8 +264,8 @@ impl<R: Read> RecordReader<R> {
         }
     }
 
-    /// The next record into `row`, and whether there was one. A plain line that was read ahead is no reason to turn to `csv`, nor is
-    /// the end of the text.
+    /// Reads the next record into `row`; false at the end. Neither a plain line read ahead nor the
+    /// text's end needs `csv`.
     pub fn read(&mut self, row: &mut ByteRecord) -> Result<bool, Stopped>
         ensures next { IfOk result (λ found. (left : List (List (List ℕ))) → records_left R.remaining self.old ≡ Some left → GivesNext left found (fields_of row.new) (records_left R.remaining self.new)) }
         ensures goes { OnOk result (stop_of self.new ≡ None) }

@@ -1,4 +1,4 @@
-//! Trace text, read.
+//! Trace text, read: rows one by one, by fields or by comparison with an expected text.
 ghost use Rattle.std.specs.Prelude.{◌+◌, ◌^◌, ◌<◌, ◌≤◌, ◌≡◌, ◌⊎◌, ◌↔◌};
 ghost use Rattle.msrp_plan.specs.Common.{[], length, IsSome, decimal, ℕ, List, Some, None, Ok, Err, IfOk, IfErr, OnOk, OnErr, true, false, source_failed, source_remaining};
 ghost use Rattle.std.specs.Option.{IfSome};
@@ -38,12 +38,13 @@ enum ReaderState {
 
 /// The rows of a trace's text, one by one. One record is kept and used again for each row.
 ///
-/// A text is records of comma-separated fields: `msrp-trace,1,M,H` or `msrp-trace,2,M,H`, with the plan's numbers of
-/// cores and ticks, and then for each row `tick,core,kind,task,job,resource`, in version 2 with a seventh field
-/// `ahead`; `-` stands where there is none.
+/// A text is records of comma-separated fields: `msrp-trace,1,M,H` or `msrp-trace,2,M,H`, with the
+/// plan's numbers of cores and ticks, then for each row `tick,core,kind,task,job,resource`, in
+/// version 2 with a seventh field `ahead`; `-` is a field without a value.
 ///
-/// Row i is record i + 1. A record is judged by its number of fields (R2), its numbers (R3), its kind (R4), its shape
-/// (R6) and its names (R5), in this order. Whether the row is legal is not judged, nor how many come.
+/// Row i is record i + 1. A record is checked for its number of fields (R2), its numbers (R3), its
+/// kind (R4), its shape (R6) and its names (R5), in this order, but not for legality or the number
+/// of rows.
 #[derive(Drop)]
 pub struct TraceReader<'a, R> {
     plan: &'a Plan,
@@ -57,7 +58,7 @@ pub struct TraceReader<'a, R> {
     state: ReaderState,
 }
 
-/// Why no reader of a trace's rows could be opened, and the first record, if one was read, with the line in which it begins, where that is known.
+/// Why a reader couldn't be opened; its first record, if read, and that record's line, if known.
 #[derive(Drop)]
 pub struct Unopened {
     pub error: TraceError,
@@ -206,7 +207,8 @@ impl<'a, R: Read> TraceReader<'a, R> {
         &self.fields
     }
 
-    /// The line in which the record of that number begins, counted from 1. It is told of the record that was read last, which after a refusal is the refused
+    /// The line, from 1, of the record of that number: the last one read, so after a refusal the
+    /// refused one.
     /// one, where it is known, as [`RecordReader::empty_lines`] says.
     pub fn line_of(&self, number: u32) -> Option<u64>
         ensures line { (text : List ℕ) → HasReadIn R.remaining text self.now → IfSome result (BeginsIn text number) }
@@ -258,8 +260,9 @@ impl<'a, R: Read> TraceReader<'a, R> {
         }
     }
 
-    /// Whether the next row is one of the core in that tick, with the text that is kept of it, where [`TraceReader::core_ahead`] has told a core in
-    /// that tick: the text of the tick isn't compared again, and no more is read. Where no text is kept it isn't met.
+    /// Whether the next row has that tick and the core's stored text, once
+    /// [`TraceReader::core_ahead`] has found a core in that tick: the tick isn't compared again,
+    /// and nothing is read. False without a stored text.
     #[inline(always)]
     pub fn comes_behind(&mut self, tick: u32, texts: &RowTexts<'_>, core: CoreId) -> bool
         requires { IsAtTick tick self.old }

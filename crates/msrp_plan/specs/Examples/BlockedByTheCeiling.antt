@@ -1,5 +1,5 @@
--- A job that uses what another holds isn't started, although its deadline is earlier: lo holds r, whose ceiling is the
--- level of hi.
+-- A job isn't started while another holds a resource that it uses, although its deadline is
+-- earlier: lo holds r, whose ceiling is hi's level.
 use Rattle.std.specs.Prelude.{List, [], ◌∷◌, ◌++◌, codes}
 use Rattle.msrp_plan.specs.Plan.{PlanModel}
 use Rattle.msrp_plan.specs.Examples.Notation.{task, section, job, idle, run, runs, lock, unlock, changed}

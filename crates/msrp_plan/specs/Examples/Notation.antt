@@ -17,7 +17,7 @@ use Rattle.msrp_plan.specs.declared.rows.Row.{Row}
 abbrev pub task : List ℕ → ℕ → ℕ → ℕ → ℕ → List Op → TaskModel
 task name core period deadline offset units = record { name = name; core = core; times = Every period offset; deadline = deadline; units = units }
 
--- a task that is released at the ticks of a list: its name, core, relative deadline, ticks and units
+-- a listed task: its name, core, relative deadline, ticks and units
 abbrev pub listed : List ℕ → ℕ → ℕ → List ℕ → List Op → TaskModel
 listed name core deadline ticks units = record { name = name; core = core; times = Listed ticks; deadline = deadline; units = units }
 

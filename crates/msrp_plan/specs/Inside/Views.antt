@@ -29,7 +29,8 @@ draft_view b = parts_view b.parts
 abbrev pub numbers : List ResId → List ℕ
 numbers rs = map (λ r. r.0) rs
 
--- a draft, of which each task but the newest is whole, with the resources that the newest holds, the innermost first
+-- a draft: all its tasks but the newest are whole; and the newest one's held resources, the
+-- innermost first
 pub record IsGrowing (plan : PlanModel) (held : List ℕ) : Type 0 where
   pub draft : IsDraft plan
   pub whole : (t : ℕ) → t + 1 < length plan.tasks → IsWhole (task_at plan t)

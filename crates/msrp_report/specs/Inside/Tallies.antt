@@ -57,7 +57,7 @@ is_active plan rows j = is_started rows j && not (is_finished plan rows j)
 abbrev pub release_or_end : PlanModel → ℕ → ℕ → ℕ
 release_or_end plan t k = if nat_lt k (length (jobs_of plan t)) then release plan (job_at t k) else plan.ticks
 
--- the counts of task t after these begun ticks: exactly the jobs with a release in them are released
+-- the counts of task t after these begun ticks: exactly the jobs with a release in them are there
 pub record IsTaskTally (plan : PlanModel) (rows : List Row) (begun t : ℕ) (x : TaskTally) : Type 0 where
   pub size : length x.jobs.items ≡ length (jobs_of plan t)
   pub units : x.units ≡ length (task_at plan t).units
