@@ -115,8 +115,7 @@ fn report<W: Write>(
     report_text(rt.alloc(), &mut plan, &mut trace, out)
 }
 
-// Does what the arguments ask for, and returns the exit status. `threads` runs plans and audits in
-// pieces.
+// Does what the arguments ask for, and returns the exit status. `threads` starts all threads.
 fn run<T: Threads + Wait + Sync>(
     rt: &HostRuntime,
     threads: &T,

@@ -8,8 +8,7 @@ use Rattle.msrp_core.specs.Machine.{MachineModel}
 use Rattle.msrp_sim.specs.Cores.{CoresModel, StandFor, IsNextRow, IsAs}
 use Rattle.msrp_audit.specs.declared.auditor.Auditor.TheInside.{Inside}
 
--- the cores after the rows without a fault, the number of these, and the fault after them, if there
--- is one
+-- the cores after the rows without a fault, the number of these, and the fault after them, if any
 pub record AuditorModel : Type 0 where
   pub plan : PlanModel
   pub cores : CoresModel

@@ -7,8 +7,7 @@ use Rattle.msrp_plan.specs.declared.rows.Kind.{Kind}
 use Rattle.msrp_plan.specs.declared.rows.Kind.TheVariants.{Take, Queue, Spin, Grant}
 use Rattle.msrp_plan.specs.declared.rows.Row.{Row}
 
--- the kinds are equal up to the answer: a request is taken or queued, a poll granted or left
--- spinning
+-- the kinds are equal up to the answer: a request taken or queued, a poll granted or not
 abbrev pub same_action : Kind → Kind → Bool
 same_action Take Queue = true
 same_action Queue Take = true

@@ -62,8 +62,7 @@ pub(crate) fn is_own(plan: &Plan, row: Row) -> bool
     job.k < plan.jobs(job.task)
 }
 
-// The lowest of the rules on job, action and reply that a row in its turn violates, given the
-// expected row.
+// The lowest of the rules on job, action and reply that a row violates, given the expected row.
 #[inline(always)]
 fn broken_by(plan: &Plan, row: Row, due: Row) -> Option<Rule>
     ensures rule { (rows : List TraceRow) → length rows < plan.now.cores * plan.now.ticks → is_in_turn plan.now rows row ≡ true → IsNextRow plan.now rows row.core.0 due → result ≡ refused plan.now rows row }
@@ -121,8 +120,7 @@ impl<'a> Auditor<'a> {
         fault
     }
 
-    /// The expected tick, while the rows so far have no fault. After the last row it is the number
-    /// of ticks.
+    /// The expected tick, while no row has a fault. After the last row it is the number of ticks.
     #[inline(always)]
     pub fn tick(&self) -> u32
         ensures tick { (rows : List TraceRow) → HasFed self.now rows → self.now.fault ≡ None → result ≡ length rows / self.now.plan.cores }
@@ -227,8 +225,7 @@ impl<'a> Auditor<'a> {
         }
     }
 
-    /// The trace's row is the expected one of the core that had its turn, with or without its
-    /// ahead.
+    /// The trace's row is the core's expected one, with or without its ahead.
     #[inline(always)]
     pub fn accept(&mut self)
         requires { self.old.fed < self.old.plan.cores * self.old.plan.ticks }
@@ -242,8 +239,7 @@ impl<'a> Auditor<'a> {
         }
     }
 
-    /// Judges the trace's row, in the tick and of the core of the expected one: the fault of the
-    /// rows so far, if any.
+    /// Judges the trace's row, of the expected row's tick and core: the fault of the rows so far.
     #[inline(always)]
     pub fn judge(&mut self, due: Row, row: Row) -> Result<(), Fault>
         requires { self.old.fed < self.old.plan.cores * self.old.plan.ticks }
@@ -294,8 +290,7 @@ impl<'a> Auditor<'a> {
         }
     }
 
-    /// What decides which job of the core runs next, while there is no fault; none if the plan
-    /// hasn't the core.
+    /// What decides which job of the core runs next, without a fault so far; none if no such core.
     pub fn state(&self, core: CoreId) -> Option<CoreState>
         ensures { (rows : List TraceRow) → HasFed self.now rows → self.now.fault ≡ None → IsStateAfter self.now.plan rows core.0 result }
     {

@@ -43,8 +43,7 @@ fn follow(plan: &Plan, machine: &mut Machine<'_>, row: Row) -> Option<Rule>
     unlike_turn(row, expected)
 }
 
-/// The core's first row with a wrong job, choice or action. A row out of turn ends the piece: the
-/// turns report it.
+/// The core's first row with a wrong job, choice or action. A row out of turn ends the piece.
 pub(crate) fn judge_core(
     alloc: Global,
     plan: &Plan,

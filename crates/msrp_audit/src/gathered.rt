@@ -82,8 +82,7 @@ impl<'a> Rows<'a> {
     }
 }
 
-/// Rows gathered before they are judged: each in eight bytes, up to the first one with too large a
-/// number.
+/// Rows gathered before they are judged: in eight bytes each, up to the first too large number.
 #[derive(Drop)]
 pub struct Gathered {
     small: Vec<SmallRow>,
@@ -102,8 +101,7 @@ impl Model for Gathered {
 }
 
 impl Gathered {
-    /// No row yet, with room for a run of the plan plus one row; [`Memory`] only if memory runs
-    /// out.
+    /// No row yet, with room for one row more than a run; [`Memory`] only if memory runs out.
     pub fn with_room(alloc: Global, plan: &Plan) -> Result<Gathered, Memory>
         ensures { IfOk result (λ rows. rows ≡ []) }
     {

@@ -49,8 +49,7 @@ fn earliest(faults: &[Option<Fault>]) -> Option<Fault>
     first
 }
 
-// The first fault of rows that aren't more than the plan's turns: the earliest of the pieces'
-// faults.
+// The first fault of rows, at most the plan's turns: the earliest of the pieces' faults.
 fn first_fault(
     rt: &(impl Threads + Sync),
     alloc: Global,

@@ -53,8 +53,7 @@ fn piece_at(plan: &Plan, number: u32) -> Piece
     }
 }
 
-/// The first fault that the piece of that number finds in the rows, which aren't more than the
-/// plan's turns.
+/// The first fault that the piece of that number finds in the rows, at most the plan's turns.
 pub(crate) fn judge(
     alloc: Global,
     plan: &Plan,

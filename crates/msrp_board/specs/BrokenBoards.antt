@@ -1,5 +1,4 @@
--- Boards of two cores and one resource that violate one line of the rule each; unless noted, opened
--- and not stopped.
+-- Boards of two cores and one resource that violate one line of the rule each, mostly opened.
 use Rattle.std.specs.Prelude.{◌∷◌}
 use Rattle.msrp_plan.specs.Common.{ℕ, List, [], true, false, replicate}
 use Rattle.msrp_plan.specs.declared.units.Call.{Call}

@@ -1,8 +1,7 @@
--- The history of a resource: what all cores did with it, in the one order of its ticket word, the
--- oldest first. In the words of Herlihy and Wing (1990), a book is a core's local history, a
--- history that `IsServed` is a linearization of the books, its sequential specification is the
--- first-in-first-out lock, and a step's linearization point is its instruction on the ticket word,
--- at its place.
+-- The history of a resource: what all cores did with it, in the order of its ticket word, the
+-- oldest first. For Herlihy and Wing (1990), a book is a core's local history, a history that
+-- `IsServed` is a linearization of the books to the first-in-first-out lock, and a step's
+-- linearization point is its instruction on the ticket word, at its place.
 use Rattle.std.specs.Prelude.{◌≡◌, ◌<◌, ◌≤◌, ◌∷◌, ◌==◌, ◌⊎◌, if◌then◌else◌}
 use Rattle.msrp_plan.specs.Common.{ℕ, suc, List, [], map, Bool, true, false, count_by, ⊤, Legal}
 use Rattle.msrp_plan.specs.declared.units.Call.{Call}
@@ -69,8 +68,8 @@ pub record IsHistory (g : ℕ) (books : ℕ → List Entry) (h : List Event) : T
   pub placed : Placed 0 h
   pub polls : IsChain PollsInOrder h
 
--- the history fits the counts of the ticket word, has the answers of a first-in-first-out lock, and
--- its ticks never fall
+-- the history fits the ticket word's counts, has a first-in-first-out lock's answers, and ticks
+-- never fall
 pub record IsServed (word g : ℕ) (books : ℕ → List Entry) (h : List Event) : Type 0 where
   pub history : IsHistory g books h
   pub requests : count_by (λ s. is_request s.1.call) h ≡ high word

@@ -15,8 +15,7 @@ HoldsBook seats i c b = (seat : SeatModel) × (slice_get seats i ≡ Some seat) 
 abbrev pub HoldsConductor : List SeatModel → ℕ → Conductor → Type 0
 HoldsConductor seats i o = (seat : SeatModel) × (slice_get seats i ≡ Some seat) × (seat.conductor ≡ Some o)
 
--- the seats share out the books of a whole board: what a seat has is the board's, and each book is
--- in one seat
+-- the seats share out the books of a whole board: each book is in one seat, as the board has it
 pub record IsSharedOut (seats : List SeatModel) (whole : WholeBoard) : Type 0 where
   pub books : (i c : ℕ) (b : Book) → HoldsBook seats i c b → slice_get whole.books c ≡ Some b
   pub with_one : (c : ℕ) (b : Book) → slice_get whole.books c ≡ Some b → (i : ℕ) × HoldsBook seats i c b

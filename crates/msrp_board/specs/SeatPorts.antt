@@ -1,6 +1,5 @@
 -- A port over a core's seat: what was asked through the seat, and how often its core may still call
--- in its tick. For code that makes a core's calls on a board through a port: ask, poll, leave,
--- room, resources.
+-- in its tick. For code that makes a core's calls through a port.
 use Rattle.std.specs.Prelude.{◌≡◌, ◌≢◌, ◌+◌, ◌∷◌, ◌++◌}
 use Rattle.msrp_plan.specs.Common.{ℕ, List, [], Bool, true, false, Some, None, ResCall}
 use Rattle.msrp_plan.specs.declared.ids.ResId.{ResId}

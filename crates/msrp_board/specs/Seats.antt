@@ -1,5 +1,4 @@
--- What a board and a seat are to their callers, what holds of every seat, and what a seat must be
--- for a call.
+-- What callers see of a board and a seat, what holds of every seat, and what each call requires.
 use Rattle.std.specs.Prelude.{◌≡◌, ◌<◌, ◌⊎◌}
 use Rattle.msrp_plan.specs.Common.{ℕ, List, [], false, replicate, Some, None, IsSome, slice_index_or}
 use Rattle.msrp_plan.specs.declared.units.Phase.{Phase}
@@ -28,8 +27,8 @@ pub record SeatModel : Type 0 where
 abbrev pub book_at : SeatModel → ℕ → Option Book
 book_at seat c = slice_index_or seat.books c None
 
--- what holds of every seat: its books are of cores of the board, and each obeys the rule's part on
--- one book
+-- what holds of every seat: its books are of the board's cores, and each obeys the rule's part on a
+-- book
 pub record IsSeat (seat : SeatModel) : Type 0 where
   pub limits : IsSize seat.board.size
   pub cores : (c : ℕ) (b : Book) → book_at seat c ≡ Some b → c < seat.board.size.cores

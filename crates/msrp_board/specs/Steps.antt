@@ -16,8 +16,7 @@ use Rattle.msrp_board.specs.Seats.{SeatModel, book_at}
 abbrev pub with_books : (Book → Book) → SeatModel → SeatModel
 with_books f seat = record { board = seat.board; books = map (option_map f) seat.books; conductor = seat.conductor }
 
--- the book with one more entry: its present tick, the resource, the place and the call with its
--- answer
+-- the book with one more entry: its present tick, the resource, the place, the answered call
 abbrev pub book_with_entry : ResId → ℕ → Call → Book → Book
 book_with_entry g place call b = record { entries = b.entries ++ record { tick = b.tick; res = g; place = place; call = call } ∷ []; tick = b.tick; admitted = b.admitted; stopped = b.stopped }
 

@@ -153,9 +153,8 @@ impl Board {
         word.next + word.serving
     }
 
-    /// Looks whether the seat's core is let into its tick: one `load` of the barrier word. `Go`
-    /// comes only after the opening and every core's arrival from all earlier ticks, `Stopped` only
-    /// after an abort.
+    /// Looks whether the seat's core is let into its tick, by one `load` of the barrier word. `Go`
+    /// needs the opening and every core's arrival from all earlier ticks, `Stopped` needs an abort.
     pub fn look(&self, seat: &mut BoardSeat) -> Look
         requires board { seat.old.board ≡ self.now }
         requires waiting { IsIn Waiting seat.old }
@@ -248,8 +247,7 @@ impl Board {
         (own, others)
     }
 
-    /// One seat with the books of both: part of a whole board that obeys the rule, as after
-    /// [`Board::confirm`].
+    /// One seat with the books of both, which fit a whole board as after [`Board::confirm`].
     pub fn join(&self, seat: BoardSeat, other: BoardSeat) -> BoardSeat
         requires board { (seat.board ≡ self.now) × (other.board ≡ self.now) }
         ensures both { result ≡ both seat other }
@@ -285,9 +283,8 @@ impl Board {
         }
     }
 
-    /// Confirms that the seat's books are part of a whole board that obeys the rule: one `load` of
-    /// the barrier word. So their answers fit one history of each resource, whoever holds the other
-    /// books.
+    /// Confirms that the seat's books are part of a whole board that obeys the rule, by one `load`
+    /// of the barrier word. So they fit one history of each resource, whoever has the other books.
     pub fn confirm(&self, seat: &mut BoardSeat)
         requires board { seat.old.board ≡ self.now }
         ensures seat { seat.new ≡ seat.old }

@@ -18,9 +18,8 @@ use crate::books::BoardSize;
 use crate::pages::{Tickets, View};
 use atomic_table::TableRule;
 
-/// The books determine each resource's history uniquely: requests and releases are in order of
-/// place, each poll is before the step of the place that it read, and polls of one place are by
-/// tick, then core.
+/// The books determine each resource's history uniquely: requests and releases by place, each poll
+/// before the step of the place that it read, and polls of one place by tick, then core.
 pub fn history_is_unique()
     ensures { HistoryIsUnique }
 {}
@@ -53,9 +52,8 @@ pub fn broken_boards()
     ensures lost_abort { ¬ IsTied boards.lost_abort }
 {}
 
-/// Books that violate one line of the rule's part on one book each: a tick after the last, a
-/// resource that doesn't exist, a release at the place of its request, and a poll without a
-/// request.
+/// Books that violate one line of the rule on one book each: a tick after the last, a resource that
+/// doesn't exist, a release at its request's place, and a poll without a request.
 pub fn broken_books()
     ensures late { ¬ IsKept boards.size boards.late }
     ensures undeclared { ¬ IsKept boards.size boards.undeclared }

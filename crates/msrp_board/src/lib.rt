@@ -1,7 +1,6 @@
-//! The board of a run, which the threads of the cores share without a lock: one ticket word for
-//! each global resource, and one barrier word. A request takes a ticket, and tickets are served in
-//! order, as in MSRP (Gai, Lipari and Di Natale 2001); between two ticks the cores meet at the
-//! barrier.
+//! The board of a run, shared by the cores' threads without a lock: a ticket word for each global
+//! resource, and one barrier word. A request takes a ticket, and tickets are served in order, as in
+//! MSRP (Gai, Lipari and Di Natale 2001); between two ticks the cores meet at the barrier.
 //!
 //! A thread steps by a [`BoardSeat`], which has the books of some cores: what they did.
 //! `docs/BOARD.md` explains the words, their rule, and what each call promises.

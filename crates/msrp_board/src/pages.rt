@@ -58,8 +58,7 @@ impl Play<(), View> for Leaves {
     ghost then = { TellsLeave };
 }
 
-/// Names a number that a step's rule mentions and its view doesn't have: a core, or the number of
-/// cores.
+/// Names a number in a step's rule that its view doesn't have: a core, or the number of cores.
 pub(crate) trait Named {
     ghost use Rattle.std.specs.Prelude.{ℕ};
 

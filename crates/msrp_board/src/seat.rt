@@ -1,4 +1,4 @@
-//! What a thread may do on a board: a seat has the books of some cores, and its readers answer from
+//! A thread's right to step on a board: a seat has some cores' books, and its readers answer from
 //! them.
 ghost use Rattle.std.specs.Prelude.{◌≡◌, ◌↔◌, ◌<◌};
 ghost use Rattle.msrp_plan.specs.Common.{ℕ, IsTrue, IsSome};

@@ -1,6 +1,5 @@
-//! A seat's states of its cores, as a chain with one node for each core, so a seat is as small as
-//! its books. The nodes are made with the board and move when seats are split or joined; neither
-//! allocates.
+//! A seat's states of its cores, as a chain with a node for each core, so a seat is as small as its
+//! books. Splitting and joining seats moves the nodes and allocates nothing.
 ghost use Rattle.std.specs.Prelude.{◌≡◌, ◌==◌};
 ghost use Rattle.msrp_plan.specs.Common.{ℕ, not, replicate, Some, IfOk, option_or};
 ghost use Rattle.std.specs.Option.{is_some};

@@ -12,8 +12,7 @@ use Rattle.msrp_sim.specs.Simulated.{IsRunIn}
 use Rattle.msrp_text.specs.declared.reading.TextError.{TextError}
 use Rattle.msrp_trace.specs.TraceText.{trace_text}
 
--- such a text was made, and nothing is wrong with it; otherwise a read failed, memory ran out, or
--- this is why
+-- such a text was made, with nothing wrong; or a read failed, memory ran out, or this is why
 abbrev pub Makes : (List ℕ → Type 0) → (CliFault → Type 0) → Result Made CliFault → Type 0
 Makes IsText IsWhy (Ok made) = IsText made.text.items × (made.found ≡ Ok tt)
 Makes IsText IsWhy (Err fault) = (fault ≡ Read) ⊎ (fault ≡ Memory) ⊎ IsWhy fault
@@ -36,8 +35,7 @@ abbrev pub WhyNoRun : (PlanModel → List ℕ) → Result PlanModel TextError �
 WhyNoRun order (Ok plan) fault = (¬ IsOrder plan (order plan)) × (fault ≡ Usage)
 WhyNoRun order (Err error) fault = fault ≡ fault_of error
 
--- the text of the run in the order and version of two numbers; if one names nothing, wrong usage
--- for any plan
+-- the text of the run in the order and version of two numbers; wrong usage if one names nothing
 abbrev pub IsSimulated : Option TextVersion → Option (PlanModel → List ℕ) → Result PlanModel TextError → Result Made CliFault → Type 0
 IsSimulated (Some version) (Some order) expected made = Makes (IsRunOf version order expected) (WhyNoRun order expected) made
 IsSimulated None order expected made = made ≡ Err Usage

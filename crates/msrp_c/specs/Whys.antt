@@ -24,8 +24,7 @@ words_in (Err fault) = []
 abbrev pub AreWords : List ℕ → Result Words CliFault → Type 0
 AreWords text words = OrUnread words (IsOkAnd words (λ made. made.found ≡ plan_found (plan_of (csv_records text))))
 
--- sentences are handed over with the plan's refusal, which isn't a fault of the call: a refused
--- plan has some too
+-- sentences are handed over with the plan's refusal, which isn't a fault of the call
 abbrev pub HandsWords : Result Words CliFault → List ℕ → List ℕ → ℕ → MsrpFound → ℕ → Type 0
 HandsWords words old new needed found status = HandsOver (refusal_in words) (words_in words) old new needed found status
 

@@ -1,5 +1,4 @@
-//! The engines for C, and so for any language that calls C: texts are bytes in the caller's
-//! buffers.
+//! The engines for C, and any language that calls C: texts are bytes in the caller's buffers.
 //!
 //! No call prints, starts a thread, or has global state; only handles last between calls. The
 //! header is `include/msrp.h`, and `docs/C.md` lists what a caller must obey.

@@ -34,8 +34,7 @@ fn spare_for(alloc: Global, cores: u32) -> Result<Vec<Box<Content>>, Memory> {
 }
 
 impl OpenRun {
-    /// A run of a plan before its first core is handed out, with all the memory that its turns
-    /// need.
+    /// A run of a plan before its first core is handed out, with all the memory of its turns.
     pub(crate) fn new(alloc: Global, loaded: Loaded) -> Result<OpenRun, Memory>
         ensures { IfOk result (λ made. IsNewRun loaded.plan.now made.run) }
     {
@@ -66,8 +65,7 @@ impl OpenRun {
         }
     }
 
-    /// Joins a core of this run that has ended, in rising order. One that can't be joined is given
-    /// back.
+    /// Joins a core of this run that has ended, in rising order; otherwise gives it back.
     pub(crate) fn join(&mut self, core: HostedCore<'static>) -> Result<(), HostedCore<'static>>
         requires { IsOfRun self.old.run core }
         ensures joined { IfOk result (λ _. CanJoin self.old.run core.entry × (self.new.run ≡ with_joined self.old.run core.entry)) }

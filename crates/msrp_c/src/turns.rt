@@ -9,8 +9,7 @@ use msrp_engine::CliFault;
 use msrp_plan::{CoreId, JobId, Kind, Plan, ResId, Row, TaskId};
 use msrp_trace::{TraceError, TraceFault, is_named};
 
-/// A row as numbers. The greatest number, 4294967295, is used for a missing task, job, resource or
-/// ahead.
+/// A row as numbers; 4294967295 is used for a missing task, job, resource or ahead.
 #[repr(C)]
 #[derive(Clone, Copy, Debug, PartialEq, Eq)]
 pub struct MsrpRow {

@@ -23,8 +23,7 @@ fn explained(alloc: Global, plan: &[u8], trace: &[u8]) -> Result<Made, CliFault>
     why_of_texts(alloc, &mut plan, &mut trace)
 }
 
-/// The verdict on a trace, and in plain sentences why; for a legal trace what its run exercised. A
-/// refused text has none.
+/// The verdict on a trace and the reasons in sentences; for a legal trace what its run exercised.
 #[unsafe(no_mangle)]
 pub extern "C" fn msrp_why(
     alloc: Global,

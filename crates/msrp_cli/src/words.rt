@@ -44,8 +44,7 @@ fn words_had(alloc: Global, args: io::Result<Args>) -> Result<Vec<String>, CliFa
     }
 }
 
-/// The arguments of the command line, the program's name first. One that isn't UTF-8 is a usage
-/// fault.
+/// The arguments, the program's name first. One that isn't UTF-8 is a usage fault.
 pub fn words_of(rt: &HostRuntime) -> Result<Vec<String>, CliFault>
     ensures { IfErr result (λ fault. (fault ≡ CliFault.Memory) ⊎ (fault ≡ CliFault.Usage)) }
 {

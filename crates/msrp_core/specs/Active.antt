@@ -10,8 +10,7 @@ use Rattle.msrp_plan.specs.declared.units.Op.TheVariants.{Lock}
 use Rattle.msrp_ready.specs.Ready.{is_among}
 use Rattle.msrp_stack.specs.Stack.{StartedJob}
 
--- an active job, the resources that it holds or awaits, the innermost first, and the number of
--- units that it has done
+-- an active job, the resources that it holds or awaits, the innermost first, and its units done
 pub record ActiveJob : Type 0 where
   pub job : JobId
   pub held : List ℕ
@@ -103,8 +102,7 @@ pub record AwaitsGlobal (plan : PlanModel) (g : ResId) (s : ActiveJob) : Type 0 
   pub now : held_after (take s.done (units plan s.job)) ≡ Some rest
   pub locals : AreLocal plan rest
 
--- what they hold, by what the core holds or awaits: only the newest may hold or await a global
--- resource
+-- what they hold, by the core's phase: only the newest may hold or await a global resource
 abbrev pub HoldSo : PlanModel → Phase → List ActiveJob → Type 0
 HoldSo plan Free active = AllByRecursion (HoldsLocal plan) active
 HoldSo plan (Queued g) [] = ⊥

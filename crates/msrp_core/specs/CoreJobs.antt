@@ -29,7 +29,7 @@ abbrev pub rising_of : PlanModel → Option JobId → Option JobId → Option Jo
 rising_of plan None running = None
 rising_of plan (Some h) running = if comes_first plan h running then Some h else None
 
--- the stored facts on the head and the running job are right: the rising job, and the running job's
+-- the stored facts on the head and the running job are right: who rises, and the running job's
 -- units
 pub record IsCurrent (jobs : Jobs) : Type 0 where
   pub rising : jobs.rising ≡ rising_of jobs.plan.now (head jobs.ready) (newest_started jobs.stack.started)
@@ -127,8 +127,7 @@ abbrev pub ActsFor : Jobs → Jobs → Option JobId → ℕ → Row → Type 0
 ActsFor old new None tick r = Idles old new tick r
 ActsFor old new (Some job) tick r = Acts old new job tick r
 
--- this is the job's next unit; the job is then the newest active one, with what it holds and its
--- units done
+-- this is the job's next unit; it is then the newest active one, with its resources and units done
 pub record IsNextUnit (jobs : Jobs) (job : JobId) (op : Op) : Type 0 where
   pub accepted : IsPlan jobs.plan.now
   pub levels : jobs.levels.now ≡ jobs.plan.now

@@ -7,8 +7,7 @@ use Rattle.msrp_plan.specs.Choice as choices
 use Rattle.msrp_plan.specs.Jobs as jobs
 use Rattle.msrp_core.specs.declared.states.CoreState.{CoreState}
 
--- after these rows, in tick t: the running job and its units done, the head, and the current
--- ceiling
+-- after these rows, in tick t: the running job and its units done, the head, and the ceiling
 pub record IsCoreState (plan : PlanModel) (c t : ℕ) (rows : List Row) (s : CoreState) : Type 0 where
   pub running : s.running ≡ choices.running plan c rows
   pub head : s.head ≡ choices.head plan c t rows

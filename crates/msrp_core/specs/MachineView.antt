@@ -14,8 +14,7 @@ abbrev pub machine_view : Inside → MachineModel
 machine_view m =
     record { plan = m.jobs.plan.now; core = m.jobs.core.0; tick = m.tick; phase = m.jobs.phase; states = map (state_of m.jobs) (jobs_on m.jobs.plan.now m.jobs.core.0); again = if m.again == 0 then None else Some (row_again m.tick m.jobs.core m.job); spin = spin_again m.tick m.jobs.core m.poll }
 
--- the last row, after pre, repeats this often: no job is released by then, and its job, which
--- wasn't queued, goes on
+-- the last row, after pre, repeats this often: no job is released, and its job, not queued, goes on
 pub record Repeats (m : Inside) : Type 0 where
   pub pre : List Row
   pub row : Row

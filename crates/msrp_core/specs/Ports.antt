@@ -11,8 +11,7 @@ use Rattle.msrp_core.specs.declared.port.PortCall.{PortCall}
 use Rattle.msrp_core.specs.declared.port.Reply.{Reply}
 use Rattle.msrp_core.specs.declared.port.Reply.TheVariants.{Taken, Queued}
 
--- a port: its calls, the oldest first, how many more each core may make, and the number of
--- resources
+-- a port: its calls, the oldest first, each core's room for more, and the number of resources
 pub record PortModel : Type 0 where
   pub calls : List PortCall
   pub rooms : ℕ → ℕ

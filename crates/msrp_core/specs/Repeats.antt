@@ -27,8 +27,7 @@ abbrev pub row_again : ℕ → CoreId → Option JobId → Row
 row_again t core None = record { tick = t; core = core; kind = Idle; job = None; res = None; ahead = None; shape = refl; carrier = refl }
 row_again t core (Some job) = record { tick = t; core = core; kind = Run; job = Some job; res = None; ahead = None; shape = refl; carrier = refl }
 
--- a row of this kind and job may repeat k times as far as its job decides: with no job, none is
--- started
+-- its job lets a row of this kind repeat k times; a row without a job means that none is started
 abbrev pub CanRepeat : Jobs → Kind → Option JobId → ℕ → Type 0
 CanRepeat jobs kind None k = (kind ≡ Idle) × (jobs.stack.started ≡ [])
 CanRepeat jobs kind (Some job) k = (kind ≡ Run) × HasWorkLeft jobs job k

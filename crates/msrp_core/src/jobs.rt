@@ -1,5 +1,4 @@
-//! The jobs of a core between two of its turns: which are ready, which are started, and their
-//! progress.
+//! The jobs of a core between two of its turns: the ready and the started ones, and their progress.
 ghost use Rattle.std.specs.Prelude.{◌≡◌, ◌<◌, ◌≤◌, ◌+◌, ◌∷◌};
 ghost use Rattle.msrp_plan.specs.Common.{[], List, Some, None, true, length, IfOk, vec_capacity, ForSome, Contains, units, jobs_on, choice, comes_first};
 ghost use Rattle.msrp_plan.specs.declared.ids.JobId.{JobId as Job};
@@ -31,8 +30,7 @@ pub(crate) struct Jobs<'a> {
     pub(crate) progress: u32,
     /// For each started job the progress of the job below it, the newest last.
     pub(crate) below: Vec<u32>,
-    /// The head if it comes before the running job, else none. Changes only at a release, start or
-    /// end.
+    /// The head if it comes before the running job. Changes only at a release, start or end.
     pub(crate) rising: Option<JobId>,
     /// The units of the newest started job, so that no turn has to look up its task.
     pub(crate) units: Units<'a>,

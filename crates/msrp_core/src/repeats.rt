@@ -1,4 +1,4 @@
-//! Turns that repeat the last row: the job is in a run of work, or the core idles, and no job is
+//! Turns that repeat the last row: a run of work goes on, or the core idles, and no job is
 //! released.
 ghost use Rattle.std.specs.Prelude.{◌≡◌, ◌<◌, ◌≤◌, ◌+◌, ◌%◌, ◌^◌, ◌∷◌};
 ghost use Rattle.msrp_plan.specs.Common.{[], ℕ, List, Some, None, false, length, ForSome, units, HasWork};
@@ -74,8 +74,7 @@ impl<'a> Jobs<'a> {
         }
     }
 
-    // Counts a unit of the running job. If no job runs, the count means nothing, so no test is
-    // needed.
+    // Counts a unit of the running job. If no job runs, the count means nothing.
     fn count(&mut self)
         ensures { self.new ≡ record self.old { progress = (self.old.progress + 1) % 2 ^ 32 } }
     {

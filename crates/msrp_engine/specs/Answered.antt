@@ -14,8 +14,7 @@ use Rattle.msrp_faults.specs.declared.faults.CliFault.TheVariants.{Memory, Read,
 abbrev pub OrUnread : {A : Type 0} → Result A CliFault → Type 0 → Type 0
 OrUnread answer Holds = (answer ≡ Err Read) ⊎ (answer ≡ Err Memory) ⊎ Holds
 
--- if the reader's bytes are known, no read failed and memory sufficed, this holds of the records in
--- them
+-- if the reader's bytes are known, no read failed and memory sufficed, this holds of their records
 abbrev pub OfText : {R A : Type 0} → (R → Option (List ℕ)) → Source R → Result A CliFault → (List (List (List ℕ)) → Type 0) → Type 0
 OfText remaining text answer Holds = (bytes : List ℕ) → source_remaining remaining text ≡ Some bytes → OrUnread answer (Holds (csv_records bytes))
 

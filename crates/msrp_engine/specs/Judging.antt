@@ -10,8 +10,7 @@ use Rattle.msrp_engine.specs.declared.judged.Judgement.{Judgement}
 use Rattle.msrp_engine.specs.declared.judged.Judgement.TheVariants.{Legal, Broken, End}
 use Rattle.msrp_engine.specs.declared.judged.JudgedRows.{JudgedRows}
 
--- the rows that are left, and the refusal after them, if what the reader underneath has left is
--- known
+-- the rows that are left, and the refusal after them, if the reader's bytes are known
 abbrev pub rows_left : {T : Type 0} → (T → Option (List ℕ)) → JudgedRows T → Option Told
 rows_left remaining j = told_left remaining j.rows
 

@@ -38,8 +38,7 @@ fn judge_rows<T: Read>(rows: &mut JudgedRows<'_, '_, T>) -> Result<Result<(), Fa
     }
 }
 
-// The verdict on the rows of a trace's text. Any early end of reading may be reported as a failed
-// read.
+// The verdict on a trace's text. An early end may be reported as a failed read.
 fn judge_all<T: Read>(
     alloc: Global,
     plan: &Plan,
@@ -72,12 +71,10 @@ pub(crate) fn write_verdict<W: Write>(
     }
 }
 
-/// The verdict on any trace of a plan: the first row that violates a rule, counted from 1, with the
-/// lowest rule violated.
+/// The verdict on any trace of a plan: the first row that violates a rule, with the lowest one.
 ///
-/// Rows are judged as they are read, and one of each core is stored. So a faulty row before a
-/// refused record decides, and nothing is read after it. A refused plan is reported whatever the
-/// trace is.
+/// Rows are judged as they are read; one of each core is stored. So a faulty row before a refused
+/// record decides, and nothing is read after it. A refused plan is reported for any trace.
 pub fn judge_texts<P: Read, T: Read>(
     alloc: Global,
     plan: &mut Source<P>,

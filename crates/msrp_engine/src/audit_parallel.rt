@@ -50,8 +50,7 @@ fn is_missing(rule: Rule) -> bool
     matches!(rule, Rule::A6)
 }
 
-// The finding on gathered rows with this verdict. If a fault ended the reading, no row counts as
-// missing.
+// The finding on gathered rows with this verdict. After an early end no row counts as missing.
 fn found_in(
     judged: Result<(), Fault>,
     ended: Result<(), CliFault>,
@@ -75,8 +74,7 @@ fn found_in(
     }
 }
 
-// The verdict on the rows of a trace's text. Any early end of reading may be reported as a failed
-// read.
+// The verdict on a trace's text. An early end may be reported as a failed read.
 fn judge_all<T: Read>(
     rt: &(impl Threads + Sync),
     alloc: Global,
@@ -120,8 +118,7 @@ fn judge_texts<P: Read, T: Read>(
 /// [`audit_text`](crate::audit::audit_text). The rows are gathered, at most one more than a run
 /// has, and judged in pieces, which may run in parallel.
 ///
-/// So it may read on after the first fault; a faulty row before a refused record or a failed read
-/// still decides.
+/// So it may read on after the first fault, which still decides.
 pub fn audit_parallel_text<P: Read, T: Read, W: Write>(
     rt: &(impl Threads + Sync),
     alloc: Global,

@@ -219,8 +219,7 @@ impl<'p, 't, T: Read> JudgedRows<'p, 't, T> {
         }
     }
 
-    // The next row, read field by field. Its text begins with that tick and that core, of which a
-    // row is expected.
+    // The next row, read field by field; its text begins with that tick and that expected core.
     #[inline(never)]
     fn read_expected(&mut self, tick: u32, core: CoreId) -> Result<Judgement, TraceError>
         requires core { core.0 < self.old.auditor.plan.cores }

@@ -27,9 +27,8 @@ pub(crate) fn own_text(alloc: Global, plan: &Plan) -> Result<Vec<u8>, CliFault>
     gathered_text(text)
 }
 
-/// Reads a plan, and writes the plan's own text, which reads as the same plan. The whole plan is
-/// read and all memory allocated before the first write: so on any fault but a write fault, nothing
-/// was written.
+/// Reads a plan, and writes its own text, which reads as the same plan. The plan is read and memory
+/// allocated before the first write: on any fault but a write fault, nothing was written.
 pub fn plan_text<P: Read, W: Write>(
     alloc: Global,
     plan: &mut Source<P>,

@@ -7,8 +7,7 @@ use msrp_faults::CliFault;
 use msrp_plan::bytes::Source;
 use std::io::Read;
 
-/// What ended the reading of a source early: a failed read if the source has failed, otherwise
-/// memory.
+/// What ended reading early: a failed read if the source has failed, otherwise memory.
 pub fn ending_of<T: Read>(source: &Source<T>) -> CliFault
     ensures read { source_failed source.now ≡ true → result ≡ CliFault.Read }
     ensures memory { source_failed source.now ≡ false → result ≡ CliFault.Memory }
@@ -20,9 +19,8 @@ pub fn ending_of<T: Read>(source: &Source<T>) -> CliFault
     }
 }
 
-/// The result made of a text. A source's borrower can't know what ended the reading early; the
-/// source can. So the fault is a failed read only if the source has failed, and memory only if it
-/// hasn't.
+/// The result made of a text. A source's borrower can't know what ended reading early, but the
+/// source can: a failed read only if the source has failed, and memory only if it hasn't.
 pub fn settled<A, T: Read>(made: Result<A, CliFault>, source: &Source<T>) -> Result<A, CliFault>
     ensures same { OrUnread result (result ≡ made) }
     ensures made { OnOk made (result ≡ made) }

@@ -38,8 +38,7 @@ fn ended(counter: Counter<'_>, found: Result<(), Fault>) -> Result<Report, Fault
     Ok(counter.end())
 }
 
-// The report of the remaining rows if they are a legal run, otherwise the verdict. None is read
-// after a faulty one.
+// The report of the remaining rows if they are a legal run, otherwise the verdict.
 #[inline(never)]
 fn report_rows<T: Read>(
     mut counter: Counter<'_>,
@@ -97,8 +96,8 @@ fn made_of(alloc: Global, plan: &Plan, report: &Report) -> Result<Made, CliFault
     })
 }
 
-// The text of the report on a trace of an accepted plan, and the verdict; without a legal run the
-// text is empty.
+// The text of the report on a trace of an accepted plan, and the verdict; without a run it is
+// empty.
 fn report_made<T: Read>(alloc: Global, plan: &Plan, trace: &mut Source<T>) -> Result<Made, CliFault>
     ensures found { OfText T.remaining trace.old result (λ records. IsReported plan.now (rows_of plan.now records) result) }
     ensures faults { IfErr result (λ fault. is_trace_fault fault ≡ true) }
@@ -112,8 +111,7 @@ fn report_made<T: Read>(alloc: Global, plan: &Plan, trace: &mut Source<T>) -> Re
     }
 }
 
-/// The text of the report on any trace of a plan; if the trace isn't a legal run, its first fault
-/// and no text.
+/// The text of the report on any trace of a plan, or the first fault and no text.
 ///
 /// Rows are judged and counted as they are read, and one of each core is stored. A refused plan is
 /// reported whatever the trace is.

@@ -78,8 +78,7 @@ fn write_run<W: Write>(
     text.finish(out)
 }
 
-// Runs an accepted plan in this order, and writes the run. All memory is allocated before the first
-// write.
+// Runs an accepted plan in this order, and writes the run; allocates before the first write.
 fn write_sim<W: Write>(
     alloc: Global,
     plan: &Plan,

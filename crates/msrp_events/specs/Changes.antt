@@ -76,8 +76,7 @@ as_waiting j = record j { waits = true }
 abbrev pub as_stepped : LiveJob → LiveJob
 as_stepped j = record j { waits = false; step = j.step + 1 }
 
--- a request puts the job after all earlier requests, a poll changes nothing, and any other step
--- counts as one more
+-- a request puts the job after all earlier requests, a poll does nothing, other steps count as one
 abbrev pub jobs_stepped : LockAction → JobId → List LiveJob → List LiveJob
 jobs_stepped Request j jobs = last_at (place_of jobs j) as_waiting jobs
 jobs_stepped Poll j jobs = jobs

@@ -1,5 +1,4 @@
--- The job that a core should run after some events: earliest deadline first under the SRP, as in a
--- plan's ticks.
+-- The job that a core should run after some events: EDF under the SRP, as in a plan's ticks.
 use Rattle.std.specs.Prelude.{ℕ, List, Bool, true, false, ◌&&◌, not, nat_lt, Option, Some, None, if◌then◌else◌, filter}
 use Rattle.std.specs.List.{list_any}
 use Rattle.std.specs.Option.{option_map}
@@ -41,8 +40,7 @@ abbrev pub comes_first : PlanModel → LiveJob → Option LiveJob → Bool
 comes_first system h None = true
 comes_first system h (Some s) = is_before system h s
 
--- the head if its level is above the ceiling and it comes before the started job; otherwise the
--- started job
+-- the head if its level is above the ceiling and it comes first; otherwise the started job
 abbrev pub chosen : PlanModel → ℕ → Option LiveJob → Option LiveJob → Option LiveJob
 chosen system above None s = s
 chosen system above (Some h) s = if nat_lt above (level system h.job.task.0) && comes_first system h s then Some h else s

@@ -1,5 +1,4 @@
--- The order of the checks: an event's finding is the first line that it violates. The first event
--- with one decides.
+-- The order of the checks: an event's finding is the first line that it violates.
 use Rattle.std.specs.Prelude.{ℕ, List, [], ◌∷◌, Bool, true, false, ◌==◌, not, nat_lt, nat_le, Option, Some, None, if◌then◌else◌, length, ◌+◌}
 use Rattle.std.specs.Option.{option_or}
 use Rattle.msrp_plan.specs.Plan.{PlanModel, core_of}

@@ -1,6 +1,5 @@
--- The released, unended jobs, and what each of them holds and awaits. A system is a plan without
--- ticks and release times: its deadlines are in ns, and its tasks' units are only locks and
--- unlocks.
+-- The released, unended jobs, and what each holds and awaits. A system is a plan without ticks and
+-- release times: its deadlines are in ns, and its tasks' units are only locks and unlocks.
 use Rattle.std.specs.Prelude.{ℕ, List, Bool, false, ◌==◌, ◌&&◌, Option, Some, None, take, slice_get, ◌-◌}
 use Rattle.std.specs.List.{list_any, position}
 use Rattle.std.specs.Option.{option_and_then}

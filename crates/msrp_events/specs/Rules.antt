@@ -24,8 +24,7 @@ abbrev pub is_reached : Option ℕ → ℕ → ℕ → Bool
 is_reached None wait now = true
 is_reached (Some t) wait now = nat_le (t + wait) now
 
--- E1: for longer than this the core hasn't run the job that it should, from the end of its own last
--- operation on
+-- E1: for longer than this the core hasn't run the right job, from its own last operation's end on
 abbrev pub is_overdue : ℕ → ℕ → ℕ → CoreLog → Bool
 is_overdue operation slack now c = c.booted && (is_some c.since && (is_past c.since slack now && is_past c.acted (operation + slack) now))
 
@@ -48,14 +47,12 @@ is_late wait now (Some t) = nat_lt (t + wait) now
 abbrev pub any_late : Tolerances → List (Option ℕ) → ℕ → Bool
 any_late tolerances free now = list_any (is_late (tolerances.operation + tolerances.slack + tolerances.skew) now) free
 
--- E8, for a step: for as long as allowed the core hasn't run the job that it should, and another
--- one still acts
+-- E8, for a step: for as long as allowed the core hasn't run the right job, and another still acts
 abbrev pub acts_late : Tolerances → ℕ → CoreLog → Bool
 acts_late tolerances now c = is_some c.since && (is_reached c.since tolerances.slack now && is_reached c.acted (tolerances.operation + tolerances.slack) now)
 
 -- ---- the rules of a step
--- E9: the step is the job's next one; only a waiting job acquires or polls, and it does nothing
--- else
+-- E9: the step is the job's next one; exactly a waiting job acquires or polls
 abbrev pub is_next_step : PlanModel → LockAction → ℕ → LiveJob → Bool
 is_next_step system Lock g j = not j.waits && (locks_next g (next_unit system j) && not (is_global system g))
 is_next_step system Unlock g j = not j.waits && (unlocks_next g (next_unit system j) && not (is_global system g))
@@ -70,8 +67,8 @@ first_waiting system jobs g = option_map (λ x. x.job) (find (awaits system g) j
 abbrev pub is_first : PlanModel → List LiveJob → ℕ → JobId → Bool
 is_first system jobs g j = is_job (first_waiting system jobs g) j
 
--- E10: a locked or acquired resource is held by nobody; the first requester acquires it; a poll
--- fails only if it must
+-- E10: what is locked or acquired is free; the first requester acquires; a poll fails only if it
+-- must
 abbrev pub has_outcome : PlanModel → List LiveJob → LockAction → ℕ → JobId → Bool
 has_outcome system jobs Lock g j = not (is_held system jobs g)
 has_outcome system jobs Acquire g j = not (is_held system jobs g) && is_first system jobs g j

@@ -17,13 +17,12 @@ pub enum LogRule {
     E6,
     /// Released twice.
     E7,
-    /// Wrong job: the core switches to a job other than the chosen one, or a job acts that isn't
+    /// Wrong job: the core switches to another than the chosen job, or a job acts that isn't
     /// running.
     E8,
     /// Wrong step: not the job's next lock, unlock or end.
     E9,
-    /// Wrong lock outcome: the resource is held, another job is first, or the poll should have
-    /// succeeded.
+    /// Wrong lock outcome: the resource is held, another job is first, or the poll should succeed.
     E10,
 }
 

@@ -1,5 +1,4 @@
-//! Laws on logs, for every system, every tolerance and all events. Each function does nothing; its
-//! contract is the law.
+//! Laws on logs, for all systems, tolerances and events. Each function's contract is the law.
 ghost use Rattle.std.specs.Prelude.{◌≡◌, ◌++◌, List, Some};
 ghost use Rattle.msrp_plan.specs.Plan.{PlanModel};
 ghost use Rattle.msrp_events.specs.Changes.{LogState, first_state, state_from};
@@ -22,8 +21,7 @@ pub fn tolerance()
     ensures window { (system : PlanModel) (narrow wide : Tolerated) (s : LogState) (events : List LogEvent) → AreWider narrow wide → IsLegalFrom system narrow s events → IsLegalFrom system wide s events }
 {}
 
-/// Mutual exclusion: after each legal start of a log at most one job holds a resource, global or
-/// local.
+/// Mutual exclusion: after each legal start of a log at most one job holds a resource.
 pub fn mutual_exclusion()
     ensures { (system : PlanModel) (tolerances : Tolerated) (events : List LogEvent) → IsLegalLog system tolerances events → IsHeldByOne system (state_from system (first_state system) events).jobs }
 {}

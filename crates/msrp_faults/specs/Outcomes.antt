@@ -23,8 +23,7 @@ abbrev pub run_fault : RunError → CliFault
 run_fault U1 = Memory
 run_fault U2 = Threads
 
--- a trace's text that gave no row, as a fault of the program; a reader that has refused isn't asked
--- again
+-- a trace's text that gave no row, as a fault of the program; a refused reader isn't asked again
 abbrev pub trace_fault_of : TraceError → CliFault
 trace_fault_of (trace.At fault number) = Trace (trace_code_of fault) number
 trace_fault_of trace.Read = Read

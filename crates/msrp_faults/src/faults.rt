@@ -122,8 +122,7 @@ impl From<RunError> for CliFault {
     }
 }
 
-/// The exit status of an outcome: 2 for a refused text, 3 for usage, 4 for memory and threads, 5
-/// for reads and writes.
+/// The exit status: 2 for a refused text, 3 usage, 4 memory and threads, 5 reads and writes.
 pub fn exit_of(outcome: &Result<u8, CliFault>) -> u8
     ensures { result ≡ status_of outcome.now }
 {

@@ -10,8 +10,7 @@ use std::fmt::{self, Formatter, Write};
 /// The hint if an argument isn't UTF-8, so no command is known.
 pub const NOT_UTF8: &str = "error: an argument isn't UTF-8\n";
 
-/// The paths of a command's texts, as given. As a text they are the command that explains the
-/// texts.
+/// The paths of a command's texts, as given; printed, they are the command that explains them.
 #[derive(Clone, Copy, Debug)]
 pub struct Paths<'a> {
     pub plan: &'a str,
@@ -81,8 +80,7 @@ fn reason(rt: &HostRuntime, paths: Paths<'_>) -> Result<Option<String>, CliFault
     }
 }
 
-/// The lines that are added to an outcome of a command on these texts; empty if there is nothing to
-/// add.
+/// The lines added to an outcome of a command on these texts; empty if there is nothing to add.
 pub fn hint_on(
     rt: &HostRuntime,
     outcome: &Result<u8, CliFault>,

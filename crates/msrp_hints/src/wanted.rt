@@ -32,8 +32,7 @@ pub fn are_wanted(rt: &HostRuntime, otherwise: bool) -> bool {
     is_wanted(setting, otherwise)
 }
 
-/// Whether a terminal shows the line of an outcome: standard error, and for a verdict also standard
-/// output.
+/// Whether a terminal shows the line: standard error, and for a verdict also standard output.
 pub fn is_on_terminal(rt: &HostRuntime, outcome: &Result<u8, CliFault>) -> bool {
     rt.stderr().is_terminal() && (outcome.is_err() || rt.stdout().is_terminal())
 }

@@ -114,7 +114,6 @@ impl<'a> HostedCore<'a> {
 
     /// Ends the core's turn; false if there is none to end. Once each core has ended its turn of
     /// this tick, all are let into the next.
-    /// next.
     pub fn arrive(&mut self) -> bool
         ensures answer { (result ≡ true) ↔ (self.old.step ≡ Step.InTurn) }
         ensures arrived { result ≡ true → (self.new ≡ record self.old { step = Step.Waiting }) ⊎ (self.new ≡ record self.old { step = Step.Ended }) }

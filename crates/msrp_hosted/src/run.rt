@@ -24,8 +24,7 @@ use std::vec::IntoIter;
 pub struct HostedRun<'a> {
     plan: &'a Plan,
     board: Arc<Board, Global>,
-    // The books of the cores not handed out or already joined, and the conductor's; there is one
-    // between two calls.
+    // The books of cores not handed out or joined, and the conductor's; there between two calls.
     rest: Option<BoardSeat>,
     // The number of cores handed out, and the parts of the others.
     handed: u32,
@@ -190,8 +189,8 @@ impl<'a> HostedRun<'a> {
         Ok(())
     }
 
-    /// Settles the run after all its cores are joined; before that it is given back. Needs no
-    /// memory.
+    /// Settles the run after all its cores are joined; before that it is given back. Allocates
+    /// nothing.
     pub fn settle(self) -> Result<SettledRun<'a>, HostedRun<'a>>
         ensures settled { IfOk result (λ settled. (self.entry.handed ≡ self.entry.plan.cores) × (length self.entry.joined ≡ self.entry.plan.cores) × (settled ≡ record { plan = self.entry.plan; turns = self.entry.joined })) }
         ensures early { IfErr result (λ back. back ≡ self.entry) }

@@ -50,8 +50,8 @@ impl<'a> SettledRun<'a> {
         // The rows of each core are those of its turns.
         ensures rows { IfOk result (λ trace. (c : ℕ) → c < self.now.plan.cores → log_of c trace.rows.items ≡ rows_of (turns_at self.now.turns c)) }
 
-        // The turns of a tick are by rank: those without a place first, by core, then by resource
-        // and place.
+        // The turns of a tick are by rank: those without a place by core, then by resource and
+        // place.
         ensures order { IfOk result (λ trace. (turns : List Turn) × (trace.rows.items ≡ rows_of turns) × IsMerged self.now.plan.cores self.now.plan.ticks (turns_at self.now.turns) turns) }
         ensures aheads { IfOk result (λ trace. carries_ahead trace.rows.items ≡ true) }
     {

@@ -14,9 +14,8 @@ use std::marker::Model;
 
 /// The preemption levels and ceilings of a plan, its global resources, and its bounds.
 ///
-/// [`Levels::of`] computes all of them once, in two passes over the units of each task. A reader
-/// looks up a stored number and needs no memory; it takes numbers of the plan's tasks, resources
-/// and cores.
+/// [`Levels::of`] computes all of them once, in two passes over each task's units. A reader looks
+/// up a stored number of one of the plan's tasks, resources or cores.
 #[derive(Drop)]
 pub struct Levels<'a> {
     plan: &'a Plan,

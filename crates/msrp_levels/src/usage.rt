@@ -70,8 +70,8 @@ pub(crate) fn tops_of(alloc: Global, plan: &Plan, tasks: &[Footprint]) -> Result
     Ok(tops)
 }
 
-// The most spins of a core's job in one wait: for each other user core, one handover and its
-// longest section.
+// The most spins of a core's job in one wait: a handover and the longest section of each other user
+// core.
 fn spin_among(cores: &[CoreUse], core: CoreId) -> u32
     requires few { length cores.now ≤ most_cores }
     requires short { All IsShort cores.now }

@@ -30,22 +30,19 @@ is_step _ = false
 abbrev pub has_place : Turn → Bool
 has_place x = is_some x.place
 
--- the row has the tick, resource and answer of an entry of its core's book; an ahead that it
--- carries is the entry's
+-- the row has the tick, resource and answer of an entry of its core's book, and its ahead, if any
 pub record IsRowOf (e : Entry) (r : Row) : Type 0 where
   pub tick : r.tick ≡ e.tick
   pub resource : r.res ≡ Some e.res
   pub kind : r.kind ≡ kind_of_call e.call
   pub ahead : IfSome r.ahead (λ n. ahead_of_call e.call ≡ Some n)
 
--- the turn is that of an entry: the row has its step, and the place is the entry's, polled if the
--- call was a poll
+-- the turn is that of an entry: the row has its step, the place is the entry's, polled if it polls
 pub record IsTurnOf (x : Turn) (e : Entry) : Type 0 where
   pub row : IsRowOf e x.row
   pub place : x.place ≡ Some (record { number = e.place; polled = is_poll e.call })
 
--- a log fits the entries of its core's book: exactly its steps have a place, and are in order the
--- entries
+-- a log fits its core's book: exactly its steps have a place, and are in order the book's entries
 pub record Fits (turns : List Turn) (entries : List Entry) : Type 0 where
   pub places : AllByRecursion (λ x. has_place x ≡ is_step x.row.kind) turns
   pub steps : Paired IsTurnOf (filter has_place turns) entries

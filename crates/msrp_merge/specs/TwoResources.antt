@@ -1,5 +1,4 @@
--- A worked merge of steps on two resources in one tick: the logs of two cores, with the board's
--- places.
+-- A worked merge of steps on two resources in a tick: two cores' logs, with the board's places.
 use Rattle.std.specs.Prelude.{◌∷◌}
 use Rattle.msrp_plan.specs.Common.{List, []}
 use Rattle.msrp_plan.specs.declared.ids.JobId.{JobId}

@@ -25,8 +25,7 @@ pub fn sort_keeps_each_log()
     ensures { (cores ticks : ℕ) (logs : ℕ → List Turn) → AreTurns cores ticks logs → IsMerged cores ticks logs (merged logs cores ticks) }
 {}
 
-/// Logs have only one merge: the turns of a tick are of different cores, and a rank ends with the
-/// core.
+/// Logs have only one merge: a tick's turns are of different cores, and a rank ends with the core.
 pub fn merge_is_unique()
     ensures { (cores ticks : ℕ) (logs : ℕ → List Turn) (turns : List Turn) → AreTurns cores ticks logs → IsMerged cores ticks logs turns → turns ≡ merged logs cores ticks }
 {}
@@ -37,9 +36,8 @@ pub fn sorted_turns_are_the_history()
     ensures { (g : ℕ) (books : ℕ → List Entry) (h : List Event) (turns : List Turn) → IsHistory g books h → IsChain IsNotLater h → Sorted InOrder turns → ((c : ℕ) → Fits (filter (is_by c) turns) (books c)) → Paired IsTurnOfEvent (filter (is_step_on g) turns) h }
 {}
 
-/// A step that is legal at its place in the history replies as the queue of its resource: if each
-/// core's rows are a run of it and the steps on each resource are a legal history, every row
-/// replies so.
+/// A step that is legal at its place in the history replies as its resource's queue: if each core's
+/// rows are a run and each resource's steps a legal history, every row replies so.
 pub fn legal_steps_reply()
     ensures { (plan : PlanModel) (rows : List Row) → IsPlan plan → AreInterleaved plan rows → AreServed plan rows → EachAfter (λ pre r. is_fifo_reply pre r ≡ true) [] rows }
 {}
@@ -57,10 +55,9 @@ pub fn logs_fit_turn_by_turn()
     ensures step { (turns : List Turn) (entries : List Entry) (x : Turn) (e : Entry) → Fits turns entries → IsTurnOf x e → Fits (turns ++ x ∷ []) (entries ++ e ∷ []) }
 {}
 
-/// A worked merge: two logs that fit the books of a board, the history of the resource that one
-/// core hands to the other, and the rows: a poll is before the release of the same place, though
-/// its core has the higher number. Rows with the handover a tick earlier aren't rows of that
-/// history.
+/// A worked merge: two logs that fit a board's books, the history of the resource that one core
+/// hands to the other, and the rows: a poll is before the release of the same place, though its
+/// core is the higher one. Rows with the handover a tick earlier aren't rows of that history.
 pub fn handover()
     ensures logs { AreLogs handover_a_tick_later.plan logs (entries_at books) }
     ensures history { IsServed (ticket_word 2 2) 0 (entries_at books) history }

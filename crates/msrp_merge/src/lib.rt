@@ -1,9 +1,8 @@
 //! The logs of the cores, merged into one trace.
 //!
 //! Each core logs its own turns, with the board's place of each step on a global resource. If the
-//! logs fit the board's books, the merge puts them into one list of rows that is a legal run. No
-//! shared clock is needed: the places order the steps on a resource, and turns on different
-//! resources commute.
+//! logs fit the board's books, the merge is a legal run. No shared clock is needed: the places
+//! order the steps on a resource, and turns on different resources commute.
 #![tactic(auto)]
 
 mod kept;

@@ -17,8 +17,7 @@ pub struct Place {
     pub polled: bool,
 }
 
-/// A turn as its core logs it: the row, and the place of its step on a global resource, if it made
-/// one.
+/// A turn as its core logs it: the row, and its step's place, if it made one on a global resource.
 #[derive(Clone, Copy, Debug, PartialEq, Eq)]
 pub struct Turn {
     pub row: Row,

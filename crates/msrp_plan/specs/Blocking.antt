@@ -1,5 +1,4 @@
--- Blocking of a job by later ones: which rows block it, and where in their outermost sections the
--- later jobs are.
+-- Blocking by later jobs: which rows block a job, and where in their outermost sections those are.
 use Rattle.std.specs.Prelude.{ℕ, List, [], ◌∷◌, ◌++◌, Bool, true, false, ◌==◌, ◌&&◌, ◌||◌, not, Option, Some, None, if◌then◌else◌, filter, ◌≡◌, ◌<◌, ◌≤◌, ◌+◌}
 use Rattle.std.specs.List.{AllByRecursion, Contains}
 use Rattle.msrp_plan.specs.Plan.{PlanModel, task_of, core_of, units, release}
@@ -39,8 +38,8 @@ is_by None r = false
 is_by (Some k) r = is_row_of k r
 
 -- ---- sections
--- the job is in an outermost section, after the section's first row: it holds a resource, or is
--- queued for one
+-- the job is in an outermost section, after its first row: it holds a resource, or is queued for
+-- one
 abbrev pub is_amid : PlanModel → List Row → JobId → Bool
 is_amid plan pre k = is_queued pre k || in_section plan (units plan k) (done k pre)
 
@@ -64,9 +63,8 @@ pub record IsBegun (plan : PlanModel) (pre : List Row) (k : JobId) (t : ℕ) : T
   pub early : first.tick < t
 
 -- ---- the laws
--- the row that blocks j is of job k: k is the first of the core's started, unfinished jobs, its
--- relative deadline is longer than j's, and it is in an outermost section that it began before j's
--- release
+-- the row that blocks j is of job k: k is the first of the core's started, unfinished jobs, has a
+-- longer relative deadline, and is in an outermost section that it began before j's release
 pub record IsBlocker (plan : PlanModel) (pre : List Row) (r : Row) (j k : JobId) : Type 0 where
   pub job : r.job ≡ Some k
   pub runs : running plan r.core.0 pre ≡ Some k
@@ -81,8 +79,7 @@ HasBlockers plan pre r = (j : JobId) → Contains (jobs plan) j → blocks plan 
 abbrev pub BlockedByBegunSections : PlanModel → List Row → Type 0
 BlockedByBegunSections plan rows = EachAfter (HasBlockers plan) [] rows
 
--- the row, if it blocks j, is job k's, after the first one of the outermost section that unit a
--- begins
+-- the row, if it blocks j, is job k's, after the first of the outermost section that unit a begins
 abbrev pub BlocksFrom : PlanModel → JobId → JobId → ℕ → List Row → Row → Type 0
 BlocksFrom plan j k a pre r = blocks plan j pre r ≡ true → continues plan k a pre r ≡ true
 
@@ -105,8 +102,7 @@ ComesBefore plan j r = r.core.0 ≡ core_of plan j → r.tick < release plan j
 abbrev pub ComesAfter : PlanModel → JobId → Row → Type 0
 ComesAfter plan j r = r.core.0 ≡ core_of plan j → release plan j ≤ r.tick
 
--- the rows of the job's core that are before its release are among the first ones, all others among
--- the rest
+-- the rows of the job's core before its release are among the first rows, its others among the rest
 pub record IsSplitAtRelease (plan : PlanModel) (j : JobId) (pre rest : List Row) : Type 0 where
   pub early : AllByRecursion (ComesBefore plan j) pre
   pub late : AllByRecursion (ComesAfter plan j) rest

@@ -34,8 +34,7 @@ abbrev pub spin_bound : PlanModel → ℕ → ℕ → ℕ
 spin_bound plan g c = sum_by (λ d. 1 + section plan g d) (filter (λ d. not (d == c) && is_used_on plan g d) (range_with_len 0 plan.cores))
 
 -- ---- blocking
--- a resource is held after the first n units: unit n is in an outermost section, after its first
--- lock
+-- a resource is held after the first n units: unit n is in an outermost section, after its lock
 abbrev pub in_section : PlanModel → List Op → ℕ → Bool
 in_section plan us n = list_any (holds_after (take n us)) (resources plan)
 

@@ -1,5 +1,4 @@
--- What a builder has received, what each call adds, and when it is refused. Refusals are in the
--- order of the checks.
+-- What a builder has, what each call adds, and when it is refused, in the order of the checks.
 use Rattle.std.specs.Prelude.{ℕ, List, [], ◌∷◌, ◌++◌, Bool, true, false, ◌==◌, ◌&&◌, ◌||◌, not, nat_lt, nat_le, is_none, Option, Some, None, if◌then◌else◌, length, map, replicate, slice_get, slice_index_or, set, take, ◌+◌, ◌-◌, ◌≡◌, ◌⊎◌, IsOk, Ok, Err, ⊤}
 use Rattle.std.specs.declared.result.Result.{Result}
 use Rattle.std.specs.List.{list_any, range_with_len}

@@ -26,8 +26,7 @@ claim_with claim g Leave = Free
 abbrev pub claim_after : List ResCall → Phase
 claim_after calls = fold (λ claim s. claim_with claim s.0 s.1) Free calls
 
--- the call is allowed: a free core requests, a waiting one polls what it awaits, a holder releases
--- what it holds
+-- the call is allowed: a free core requests, a waiting one polls, a holder releases
 abbrev pub IsDueCall : Phase → ResId → Call → Type 0
 IsDueCall claim g (Ask n) = claim ≡ Free
 IsDueCall claim g (Poll granted) = claim ≡ Queued g

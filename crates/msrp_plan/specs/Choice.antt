@@ -45,8 +45,7 @@ abbrev pub comes_first : PlanModel → JobId → Option JobId → Bool
 comes_first plan h None = true
 comes_first plan h (Some s) = is_before plan h s
 
--- the head if its level is above the ceiling and it comes before the running job; otherwise the
--- running job
+-- the head if its level is above the ceiling and it comes first; otherwise the running job
 abbrev pub chosen : PlanModel → ℕ → Option JobId → Option JobId → Option JobId
 chosen plan above None s = s
 chosen plan above (Some h) None = if nat_lt above (level plan h.task.0) then Some h else None

@@ -1,5 +1,4 @@
--- Definitions for private functions, and how plans and tasks are stored. No public contract uses
--- them.
+-- Definitions for private functions and stored plans. No public contract uses them.
 pub mod Tasks
 pub mod Users
 pub mod Views

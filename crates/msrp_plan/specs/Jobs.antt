@@ -1,5 +1,4 @@
--- Jobs, and their progress after rows of a trace. Nothing is stored: progress is counted in the
--- rows.
+-- Jobs, and their progress after rows of a trace, which is counted in the rows, not stored.
 use Rattle.std.specs.Prelude.{ℕ, List, Bool, true, false, ◌==◌, ◌&&◌, not, nat_lt, nat_le, Option, Some, None, fold, filter, map, count_by, length, take}
 use Rattle.std.specs.List.{list_any, range_with_len, flat_map}
 use Rattle.msrp_plan.specs.Plan.{PlanModel, core_of, release, units}

@@ -20,8 +20,7 @@ use Rattle.msrp_plan.specs.declared.rows.Row.{Row}
 abbrev pub LocksFree : PlanModel → List Row → Row → Type 0
 LocksFree plan pre r = (g : ResId) (j : JobId) → r.kind ≡ Lock → r.res ≡ Some g → r.job ≢ Some j → holds plan pre g.0 j ≡ false
 
--- no job that runs ever waits for a local resource (Baker 1991: a job that has started is not
--- blocked)
+-- no job that runs ever waits for a local resource (Baker 1991: a started job isn't blocked)
 abbrev pub NoLocalBlocking : PlanModel → List Row → Type 0
 NoLocalBlocking plan rows = EachAfter (LocksFree plan) [] rows
 
@@ -81,8 +80,7 @@ BoundedOvertaking plan rows = EachWait rows (λ r since j g. count_by (is_acquis
 abbrev pub FindsShort : PlanModel → List Row → Row → Type 0
 FindsShort plan pre r = (g : ℕ) → r.kind ≡ Queue → is_on g r.res ≡ true → length (fifo g pre) ≤ plan.cores - 1
 
--- no job joins a queue longer than m - 1, on m cores (Gai, Lipari and Di Natale 2001: one request a
--- core)
+-- no job joins a queue longer than m - 1, on m cores (Gai, Lipari and Di Natale 2001)
 abbrev pub ShortQueues : PlanModel → List Row → Type 0
 ShortQueues plan rows = EachAfter (FindsShort plan) [] rows
 

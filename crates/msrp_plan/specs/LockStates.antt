@@ -40,9 +40,8 @@ Tells queue (Ask ahead) = ahead ≡ length queue
 Tells queue (Poll granted) = ⊤
 Tells queue Leave = ⊤
 
--- queue and lock agree on a row that such a call makes: as the core's next turn, the row has the
--- queue's reply if and, in a legal run, only if the lock answers the call; after the row the lock
--- is as after the call
+-- queue and lock agree on a row that such a call makes: as the core's next turn, it has the queue's
+-- reply if and, in a legal run, only if the lock answers; after it the lock is as after the call
 pub record Agree (plan : PlanModel) (pre : List Row) (r : Row) (g : ℕ) (call : Call) : Type 0 where
   pub replies : IsRunStart plan pre → IsCoreTurn plan r.core.0 (log_of r.core.0 pre) r → Answers (lock_at plan g pre) r.core.0 call → is_fifo_reply pre r ≡ true
   pub answers : IsRunStart plan (pre ++ r ∷ []) → Tells (fifo g pre) call → Answers (lock_at plan g pre) r.core.0 call

@@ -1,5 +1,4 @@
--- The consequences of the rules in the words of scheduling, and that a run continues in every order
--- of turns.
+-- The consequences of the rules in the words of scheduling; a run continues in every order.
 use Rattle.std.specs.Prelude.{ℕ, List, [], true, false, Some, count_by, length, ◌==◌, ◌≡◌, ◌≢◌, ◌↔◌, ◌<◌, ◌≤◌, ◌*◌, ◌/◌}
 use Rattle.std.specs.List.{Contains}
 use Rattle.msrp_plan.specs.Plan.{PlanModel, release}

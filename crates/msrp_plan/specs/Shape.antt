@@ -20,7 +20,7 @@ abbrev pub may_carry : Kind → Option ℕ → Bool
 may_carry kind None = true
 may_carry kind (Some n) = is_queue kind
 
--- ---- the parts of a row by its kind, out of values that fill the places of those that it lacks
+-- ---- the parts of a row by its kind, with values for those that it lacks
 -- an idle row has no job
 abbrev pub job_of_kind : Kind → JobId → Option JobId
 job_of_kind Idle job = None

@@ -1,5 +1,4 @@
--- The verdict on any list of rows: the first row that violates a rule, with the lowest rule
--- violated.
+-- The verdict on any rows: the first row that violates a rule, with the lowest rule violated.
 use Rattle.std.specs.Prelude.{ℕ, List, [], ◌∷◌, ◌++◌, Option, Some, None, if◌then◌else◌, nat_lt, length, ◌+◌, ◌*◌}
 use Rattle.std.specs.Option.{option_or}
 use Rattle.msrp_plan.specs.Plan.{PlanModel}

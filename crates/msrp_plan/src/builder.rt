@@ -92,9 +92,8 @@ impl PlanBuilder {
         Ok(ResId(number))
     }
 
-    /// Declares a periodic task; the next units are its units. The previous task's end is checked
-    /// first (P14, P12, P10), then the name (P5, P6), the core (P9) and the times in ticks (P7, as
-    /// is a 65th task).
+    /// Declares a periodic task. The previous task's end is checked first (P14, P12, P10), then the
+    /// name (P5, P6), the core (P9) and the times in ticks (P7, as is a 65th task).
     pub fn task(
         &mut self,
         name: &str,
@@ -159,8 +158,8 @@ impl PlanBuilder {
         }
     }
 
-    /// Adds a release to the newest task. A tick above the limit or an 8,193rd release is P7; then
-    /// a tick not above the previous one is P14. A tick after the plan's end is accepted, but
+    /// Adds a release to the newest task. A tick above the limit or an 8,193rd release is P7; a
+    /// tick not above the previous one is then P14. A tick after the plan's end is accepted, but
     /// releases no job.
     pub fn release(&mut self, tick: u32) -> Result<(), PlanFault>
         requires { takes_releases self.old ≡ true }
@@ -175,8 +174,8 @@ impl PlanBuilder {
         Ok(())
     }
 
-    /// Adds units to the newest task. A listed task without a release is P14; then P8, P10 and P7
-    /// are checked.
+    /// Adds units to the newest task: P14 if it is a listed task without a release; then P8, P10,
+    /// P7.
     pub fn op(&mut self, step: Step) -> Result<(), PlanFault>
         requires { 0 < length self.old.tasks }
         ensures judged { IsJudged (op_fault self.old step) result }

@@ -1,8 +1,7 @@
 //! `Source`, a reader under limits, and `Sink`, a writer that takes whole texts.
 //!
-//! Both remember a failure: after one, every further call fails. So who lends a source to a reader
-//! of records can ask afterwards whether a read failed, and who writes many texts asks only at the
-//! end.
+//! Both remember a failure: every later call fails too. So a source's lender can ask afterwards
+//! whether a read failed, and who writes many texts asks only at the end.
 
 ghost use Rattle.std.specs.Prelude.{◌≡◌, ◌++◌, ◌+◌, ◌≤◌, ◌<◌, ◌||◌, nat_lt, true, false, ◌↔◌, Some, None, IfOk, IfErr, OnOk, OnErr, IsErr, IsOk, Ok, codes, decimal, length, take};
 ghost use Rattle.std.specs.Io.{ReadsAtMost};
@@ -120,8 +119,7 @@ impl<R: Read> Read for Source<R> {
         ensures fault { OnErr result (source_failed self.new ≡ true) }
         ensures good { OnOk result (source_failed self.new ≡ false) }
 
-        // After a failure every read fails, and after the end every read gives nothing, without a
-        // call.
+        // After a failure every read fails, and after the end each gives nothing, without a call.
         ensures failed { source_failed self.old ≡ true → IsErr result × (self.new ≡ self.old) }
         ensures ended { source_ended self.old ≡ true → (result ≡ Ok 0) × (self.new ≡ self.old) }
 

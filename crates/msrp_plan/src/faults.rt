@@ -29,8 +29,7 @@ pub enum PlanFault {
     /// P6: a task, or a resource, of that name exists already.
     #[error("P6: a name stands already")]
     Taken,
-    /// P7: a number is out of range, or one resource, task, unit, release or held resource too
-    /// many.
+    /// P7: a number out of range, or a resource, task, unit, release or held resource too many.
     #[error("P7: a limit of plans is passed")]
     Limit,
     /// P8: a resource that was not declared.
@@ -80,8 +79,7 @@ impl<T: Drop> From<AllocFailed<T>> for PlanFault {
 }
 
 impl PlanFault {
-    /// The number after P of the code, 1 for [`PlanFault::Version`] to 16 for
-    /// [`PlanFault::Memory`].
+    /// The number after P of the code: 1 ([`PlanFault::Version`]) to 16 ([`PlanFault::Memory`]).
     pub fn code(self) -> u32
         ensures { result ≡ code_of self }
     {

@@ -109,8 +109,7 @@ pub fn overtaken_as_often_as_can_be()
     ensures others { count_by (is_acquisition 0) (take 2 (drop 5 requested_again.rows)) ≡ requested_again.plan.cores - 1 }
 {}
 
-/// A worked run in which a job spins twice, where the bound is 3: the other core's section plus
-/// one.
+/// A worked run in which a job spins twice, with a bound of 3: the other core's section plus one.
 pub fn spins_within_the_bound()
     ensures laws { KeepsLaws handover_a_tick_later.plan handover_a_tick_later.rows }
     ensures wait { IsWait (queue 0 1 (job 1 0) 0) (take 5 (drop 2 handover_a_tick_later.rows)) (job 1 0) 0 }

@@ -175,8 +175,8 @@ impl Plan {
         self.units_of(task).unit(place as usize)
     }
 
-    /// The number of jobs of a task: of its releases before the plan's end. Its jobs are numbered
-    /// below it.
+    /// The number of jobs of a task: its releases before the plan's end. Jobs are numbered below
+    /// it.
     pub fn jobs(&self, task: TaskId) -> u32
         requires { task.0 < length self.now.tasks }
         ensures count { result ≡ length (jobs_of self.now task.0) }
@@ -203,9 +203,9 @@ impl Plan {
         jobs
     }
 
-    /// The tick in which a job is released. A periodic task has a release for each `k`, a listed
-    /// one for each `k` below its list's length; releases after the plan's end are included, but
-    /// release no job.
+    /// The tick in which a job is released: any `k` of a periodic task, and each `k` below the
+    /// list's length of a listed one. Releases after the plan's end are included, but release no
+    /// job.
     pub fn release(&self, job: JobId) -> u64
         requires task { job.task.0 < length self.now.tasks }
         requires released { IsSome (release_tick self.now job) }

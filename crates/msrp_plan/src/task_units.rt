@@ -12,8 +12,7 @@ fn unit_at(units: &[Op], place: usize) -> Op
     units[place]
 }
 
-/// The units of a task, lent by [`Plan::units_of`](crate::Plan::units_of): several reads need one
-/// lookup of the task.
+/// A task's units, lent by [`Plan::units_of`](crate::Plan::units_of), found by one lookup.
 #[derive(Drop)]
 pub struct Units<'a> {
     units: &'a [Op],

@@ -43,8 +43,7 @@ pub fn nothing_to_do()
     ensures run { IsRun nothing_to_do.plan nothing_to_do.rows }
 {}
 
-/// One task on one core: it works, then the core idles. Too much work, or idling while a job waits,
-/// isn't legal.
+/// One task on one core works, then the core idles. Too much work, or idling too soon, isn't legal.
 pub fn work_then_idle()
     ensures run { IsRun work_then_idle.plan work_then_idle.rows }
     ensures too_long { verdict work_then_idle.plan work_then_idle.too_long ≡ fault 3 A3 }
@@ -66,8 +65,8 @@ pub fn listed_releases()
     ensures late_job { verdict listed_releases.with_a_late_release listed_releases.third_job ≡ fault 5 A2 }
 {}
 
-/// A job whose level isn't above the current ceiling isn't started, even with an earlier deadline
-/// (Baker 1991).
+/// A job whose level isn't above the ceiling isn't started, even with an earlier deadline (Baker
+/// 1991).
 pub fn blocked_by_the_ceiling()
     ensures run { IsRun blocked_by_the_ceiling.plan blocked_by_the_ceiling.rows }
     ensures past_the_ceiling { verdict blocked_by_the_ceiling.plan blocked_by_the_ceiling.past_the_ceiling ≡ fault 2 A3 }
@@ -206,8 +205,8 @@ pub fn refused_resources()
     ensures resource_33 { resource_fault full_of_resources (codes "s") ≡ Some Limit }
 {}
 
-/// Which tasks a builder refuses: the previous task's end is checked first, then the name, the core
-/// and the limits.
+/// Which tasks a builder refuses: the previous task's end is checked first, then name, core and
+/// limits.
 pub fn refused_tasks()
     ensures first_task { task_fault (with_tasks []) (fresh (codes "g") 1 1 1000000 0) ≡ None }
     ensures unitless { task_fault (after []) (fresh (codes "B") 2 0 0 0) ≡ Some NoUnit }

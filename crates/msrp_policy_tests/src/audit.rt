@@ -150,8 +150,7 @@ fn a_row_too_many_is_told(rt: HostRuntime) -> Result<(), Fail> {
     Ok(())
 }
 
-// One task on each of eight cores, all with the same resource, in the longest run of the most
-// cores.
+// A task on each of eight cores, all with one resource, in the longest run of the most cores.
 pub(crate) const CROWD: &[u8] =
     b"msrp,1\ncores,8\nticks,20000\nresource,g\ntask,a,0,20,8,0\nop,lock,g\nop,run,1\nop,unlock,g\ntask,b,1,20,8,0\nop,lock,g\nop,run,1\nop,unlock,g\ntask,c,2,20,8,0\nop,lock,g\nop,run,1\nop,unlock,g\ntask,d,3,20,8,0\nop,lock,g\nop,run,1\nop,unlock,g\ntask,e,4,20,8,0\nop,lock,g\nop,run,1\nop,unlock,g\ntask,f,5,20,8,0\nop,lock,g\nop,run,1\nop,unlock,g\ntask,g,6,20,8,0\nop,lock,g\nop,run,1\nop,unlock,g\ntask,h,7,20,8,0\nop,lock,g\nop,run,1\nop,unlock,g\n";
 
@@ -186,8 +185,7 @@ fn is_more_due(auditor: &Auditor<'_>) -> bool {
     false
 }
 
-// The first row of the longest run that isn't expected, and whether a core has a turn left after
-// the last.
+// The longest run's first row that isn't expected, and whether a core has a turn left at the end.
 fn undue(alloc: Global) -> Result<(Option<usize>, bool), Fail> {
     let plan = plan_of(alloc, CROWD)?;
     let levels = Levels::of(alloc, &plan)?;
@@ -197,8 +195,7 @@ fn undue(alloc: Global) -> Result<(Option<usize>, bool), Fail> {
     Ok((first, is_more_due(&auditor)))
 }
 
-// A row is expected in each turn, also when a job is released (in each twentieth) or starts; none
-// after the last.
+// A row is expected in each turn, also at a release (in each twentieth) or a start; then none.
 #[test]
 fn each_row_is_due(rt: HostRuntime) -> Result<(), Fail> {
     assert_eq!(rt; undue(rt.alloc())?, (None, false));

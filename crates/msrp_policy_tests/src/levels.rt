@@ -1,5 +1,4 @@
-//! Plans small enough to follow by hand, with the levels, ceilings and bounds of the literature's
-//! rules.
+//! Plans small enough to follow by hand, with their levels, ceilings and bounds.
 ghost use Rattle.std.specs.Prelude.{◌≡◌};
 
 use crate::plans::plan_of;
@@ -76,8 +75,7 @@ fn expect_cores(
     }
 }
 
-// For a resource: whether it is global, its users, and for each core its ceiling, longest section,
-// and bound on spinning.
+// A resource: whether it is global, its users, and by core its ceiling, longest section and bound.
 #[derive(Clone, Copy)]
 struct Expected<'a> {
     res: ResId,

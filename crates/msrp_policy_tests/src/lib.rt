@@ -1,5 +1,4 @@
-//! Tests of the crates of the policy: plans, levels, the parts of a core, and an auditor fed row by
-//! row.
+//! Tests of the policy's crates: plans, levels, the parts of a core, and an auditor fed row by row.
 //!
 //! They are in a crate above those, which are proved once, without them.
 #![tactic(auto)]

@@ -1,5 +1,4 @@
-//! A machine over the tests' own port: it obeys the port's answers, even if no request is ever
-//! granted.
+//! A machine over the tests' own port: it obeys the port's answers, even if it is never granted.
 ghost use Rattle.std.specs.Prelude.{◌≡◌, ◌<◌, ◌≤◌, ◌+◌, ◌==◌};
 ghost use Rattle.msrp_plan.specs.Common.{cond, vec_len, vec_capacity, IfOk};
 ghost use Rattle.msrp_core.specs.Ports.{PortModel, Adds, claim_in};

@@ -65,8 +65,7 @@ fn job(task: u32, k: u32) -> Option<JobId> {
     })
 }
 
-// On a plan's first core: the index of the first wrong call, the number of comparisons, and the
-// tick released to.
+// On a plan's first core: the index of the first wrong call, the comparisons, and the tick reached.
 type Found = (Option<usize>, u64, Option<u32>);
 
 fn found(alloc: Global, text: &[u8], calls: &[Call]) -> Result<Found, Fail> {
@@ -78,8 +77,7 @@ fn found(alloc: Global, text: &[u8], calls: &[Call]) -> Result<Found, Fail> {
     Ok((wrong, ready.compared(), ready.tick()))
 }
 
-// Task y is declared first and released last: both absolute deadlines are 10, so the release
-// decides.
+// Task y is declared first and released last: both deadlines are 10, so the release decides.
 #[test]
 fn equal_deadlines_go_by_release(rt: HostRuntime) -> Result<(), Fail> {
     let text = b"msrp,1\ncores,1\nticks,8\ntask,y,0,20,8,2\nop,run,1\ntask,x,0,20,10,0\nop,run,1\n";
@@ -158,8 +156,7 @@ fn full(alloc: Global) -> Result<Plan, Fail> {
     plan_of(alloc, text.as_slice())
 }
 
-// Whether the next heads are the jobs of a task, each seen with no comparison and taken with at
-// most 26.
+// Whether the next heads are a task's jobs, each seen with no comparison, taken with at most 26.
 fn leaves_next(ready: &mut Ready<'_>, task: u32) -> bool {
     let mut good = true;
     for k in 0..128u32 {

@@ -152,8 +152,7 @@ fn requests(rt: &impl Abort, alloc: Global, plan: &Plan, levels: &Levels) -> Res
     Ok(())
 }
 
-// A job started while another holds a resource is on top until it ends, and leaves the ceiling as
-// it is.
+// A job started while another holds a resource is on top until it ends; the ceiling stays.
 fn stands_on(rt: &impl Abort, alloc: Global, plan: &Plan, levels: &Levels) -> Result<(), Fail>
     requires { levels.now ≡ plan.now }
 {

@@ -113,8 +113,7 @@ pub(crate) fn release(
     }
 }
 
-// Releases the jobs of one tick. Kept apart from the code for ticks without a release, the usual
-// ones.
+// Releases the jobs of one tick, apart from the code for the usual tick without a release.
 #[inline(never)]
 fn release_some(plan: &Plan, calendar: &[Entry], from: usize, tick: u32, heap: &mut Heap) -> usize
     requires from { from ≤ length calendar.now }

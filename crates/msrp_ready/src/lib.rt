@@ -1,5 +1,4 @@
-//! The ready jobs of a core: those that are released and not started, the one with the least key
-//! first.
+//! The ready jobs of a core: those released and not started, the one with the least key first.
 //!
 //! [`Ready`] has the core's jobs in a calendar by release, and the released ones that aren't taken
 //! yet in a binary heap by key. Both get all their memory at once.

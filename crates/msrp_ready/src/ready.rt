@@ -24,8 +24,7 @@ pub struct Ready<'a> {
     tick: Option<u32>,
     calendar: Vec<Entry>,
     next: usize,
-    // The next release, after all ticks if none is left; so most turns don't look into the
-    // calendar.
+    // The next release, after all ticks if none is left: most turns need no look at the calendar.
     coming: u64,
     heap: Heap,
 }
@@ -62,8 +61,7 @@ impl<'a> Ready<'a> {
         })
     }
 
-    /// Releases the jobs of the core up to a tick, which isn't before the last one. Needs no
-    /// memory.
+    /// Releases the core's jobs up to a tick, which isn't before the last one. Allocates nothing.
     pub fn release_to(&mut self, tick: u32)
         requires { ForSome self.old.tick (λ before. before ≤ tick) }
         ensures tick { self.new ≡ record self.old { tick = Some tick; compared = self.new.compared } }

@@ -1,5 +1,4 @@
--- Plans small enough to follow by hand, each with a run. `src/worked.rt` has the reports of the
--- runs.
+-- Plans small enough to follow by hand, each with a run; `src/worked.rt` has their reports.
 pub mod ThreeWaits
 pub mod ThreeBlockedJobs
 pub mod TwoSpinningJobs

@@ -19,8 +19,7 @@ absolute_deadline plan j = (key plan j).deadline
 abbrev pub response : PlanModel → List Row → JobId → ℕ
 response plan rows j = if is_finished plan rows j then (last_tick j rows + 1) - release plan j else 0
 
--- the job finished after its absolute deadline; or it isn't finished, and its deadline isn't after
--- the last tick
+-- the job finished after its absolute deadline; or it didn't, and that isn't after the last tick
 abbrev pub is_late : PlanModel → List Row → JobId → Bool
 is_late plan rows j = if is_finished plan rows j then nat_lt (absolute_deadline plan j) (last_tick j rows + 1) else nat_le (absolute_deadline plan j) plan.ticks
 
@@ -41,8 +40,7 @@ abbrev pub spins_to_grant : JobId → List Row → ℕ
 spins_to_grant j [] = 0
 spins_to_grant j (r ∷ rows) = if is_granted j r then 0 else (if is_spin_of j r then 1 else 0) + spins_to_grant j rows
 
--- its most spins in one wait, from the row in which it joins the queue to its grant or to the end;
--- 0 if it never waits
+-- its most spins in one wait, from joining the queue to its grant or the end; 0 if it never waits
 abbrev pub longest_wait : JobId → List Row → ℕ
 longest_wait j [] = 0
 longest_wait j (r ∷ rows) = max (if is_queue_of j r then spins_to_grant j rows else 0) (longest_wait j rows)

@@ -20,8 +20,7 @@ fn locks(levels: &Levels<'_>, task: TaskId, res: ResId) -> bool
     is_among(levels.users(res), task)
 }
 
-// The most spins of a job of the core's task in one wait for a resource; 0 if the task doesn't lock
-// it as a global one.
+// The most spins of a task's job in one wait for a resource; 0 if it has no such global lock.
 fn wait_of(levels: &Levels<'_>, task: TaskId, core: CoreId, res: ResId) -> u32
     requires task { task.0 < length levels.now.tasks }
     requires core { core.0 < levels.now.cores }

@@ -55,8 +55,7 @@ impl<'a> Counter<'a> {
         self.count_begun(row);
     }
 
-    /// Begins the tick of the next row, unless it has begun, with its jobs' releases. Needs no
-    /// memory.
+    /// Begins the tick of the next row, unless it has begun, with its releases. Allocates nothing.
     #[inline(always)]
     pub fn begin_tick(&mut self, tick: u32)
         requires { MayBegin self.old tick }
@@ -68,8 +67,8 @@ impl<'a> Counter<'a> {
     }
 
     /// Counts the next row of a legal start, of the tick begun last: for a caller that begins a
-    /// tick once for all its rows, where [`count`](Counter::count) tries with each. Needs no
-    /// memory.
+    /// tick once for all its rows, where [`count`](Counter::count) tries with each. Allocates
+    /// nothing.
     #[inline(always)]
     pub fn count_begun(&mut self, row: Row)
         requires row { MayCount self.old row }

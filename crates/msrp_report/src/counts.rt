@@ -48,7 +48,6 @@ impl JobCount {
 
     /// Counts a row of the job, of this tick and kind. Writes only what changes. Most rows do a
     /// unit; a table finds these without a branch.
-    /// by a table.
     #[inline(always)]
     pub(crate) fn add(&mut self, tick: u32, kind: Kind)
         requires { CanCount self.old }

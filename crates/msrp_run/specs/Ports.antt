@@ -21,14 +21,13 @@ calls_by core calls = map (λ s. record { core = core; res = s.0; call = s.1 }) 
 abbrev pub port_of : CoreId → SeatModel → PortModel
 port_of core seat = record { calls = calls_by core (port_calls seat core.0); rooms = port_room seat; resources = seat.board.size.resources }
 
--- what was done through a seat since it was `first`: nothing, or one step, at this place, after
--- which there is no room
+-- what was done through a seat since it was `first`: nothing, or one step at this place, the only
+-- one
 abbrev pub IsStepSince : ℕ → SeatModel → Option Place → SeatModel → Type 0
 IsStepSince c first None seat = seat ≡ first
 IsStepSince c first (Some p) seat = (res : ResId) × (call : Call) × (p.polled ≡ is_poll call) × (seat ≡ with_entry res p.number call first) × (port_room seat c ≡ 0) × IsDueCall (claim_after (port_calls first c)) res call
 
--- what holds of a seat port: the seat is its core's, let into its tick, and has made at most one
--- step
+-- what holds of a seat port: its core's seat, let into its tick, which has made at most one step
 pub record IsSeatPort (c : ℕ) (first : SeatModel) (board : BoardModel) (core : CoreId) (place : Option Place) (seat : SeatModel) : Type 0 where
   pub of_core : core.0 ≡ c
   pub port : IsPort board c seat
@@ -40,8 +39,7 @@ pub record SeatPortModel : Type 0 where
   pub seat : SeatModel
   pub place : Option Place
 
--- a turn's call of its port: one call, which makes the row, or none if the row is on no global
--- resource
+-- a turn's call of its port: one call, which makes the row, or none on no global resource
 abbrev pub HasAsked : PlanModel → Row → PortModel → PortModel → Type 0
 HasAsked plan r before after = MakesCall plan r before after ⊎ (IsQuiet plan r × (after ≡ before))
 

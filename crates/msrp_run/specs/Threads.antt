@@ -67,8 +67,7 @@ ArePromised board plan handles = (k : ℕ) (d : _) → k < length handles → Is
 abbrev pub AllWorked : PlanModel → List LogModel → SeatModel → Type 0
 AllWorked plan logs seat = (k : ℕ) → k < length logs → (b : Book) × (book_at seat k ≡ Some b) × IsWorked plan k (log_at logs k) b
 
--- the started workers have ended: each has left its log, and the seat has all books and the
--- conductor's
+-- the started workers have ended: each has left its log, and the seat has all books
 pub record HasEnded (board : BoardModel) (plan : PlanModel) (ended : Ended) : Type 0 where
   pub few : length ended.logs.items ≤ plan.cores
   pub all : IsTrue ended.all → length ended.logs.items ≡ plan.cores
@@ -79,8 +78,7 @@ pub record HasEnded (board : BoardModel) (plan : PlanModel) (ended : Ended) : Ty
 abbrev pub AreDone : ℕ → List Book → Type 0
 AreDone ticks books = (c : ℕ) (b : Book) → slice_get books c ≡ Some b → phase_in ticks b ≡ Done
 
--- all cores were let in and have ended: their logs are runs of the cores, carry aheads and fit the
--- board's books
+-- all cores have ended: their logs are runs of the cores, carry aheads and fit the board's books
 pub record HasRun (plan : PlanModel) (logs : List LogModel) (board : WholeBoard) : Type 0 where
   pub logs_are : AreLogs plan logs (entries_at board.books)
   pub aheads : (c : ℕ) → c < plan.cores → carries_ahead (rows_of (turns_of logs c)) ≡ true

@@ -29,8 +29,7 @@ pub record MayTurn (board : BoardModel) (m : MachineModel) (log : LogModel) (sea
   pub tick : book.tick ≡ m.tick
   pub claims : lock_of book ≡ m.phase
 
--- a turn and the entries of its core's book: a turn on no global resource adds none, any other adds
--- its own
+-- a turn and the entries of its core's book: exactly a turn on a global resource adds its own
 pub data IsOneStep (turn : Turn) (before after : List Entry) : Type 0 where
   NoStep : (bare : turn.place ≡ None) (quiet : is_step turn.row.kind ≡ false) (same : after ≡ before) → IsOneStep turn before after
   OneStep : (entry : Entry) (told : IsTurnOf turn entry) (added : after ≡ before ++ entry ∷ []) → IsOneStep turn before after
@@ -44,9 +43,8 @@ pub record CoreModel : Type 0 where
 abbrev pub core_with : MachineModel → LogModel → SeatModel → CoreModel
 core_with m log seat = record { machine = m; log = log; seat = seat }
 
--- the core had its turn: the row is its next one and the last of its log, after which the machine
--- stands; the seat is the same core's on the same board, in the same tick, and its book has the
--- turn's entry
+-- the core had its turn: the row is its next and its log's last one, after which the machine
+-- stands; the seat is the same core's, in the same tick, and its book has the turn's entry
 pub record HasTurned (board : BoardModel) (old : CoreModel) (row : Row) (new : CoreModel) : Type 0 where
   pub plan : new.machine.plan ≡ old.machine.plan
   pub core : new.machine.core ≡ old.machine.core

@@ -29,8 +29,7 @@ pub enum RunError {
     /// Out of memory, before the first tick or after the last.
     #[error("U1: memory was refused")]
     U1,
-    /// A thread couldn't be started, so no core had a turn. Memory that a thread's start lacked
-    /// counts as this too.
+    /// A thread couldn't be started, so no core had a turn; also if the start lacked memory.
     #[error("U2: a thread was refused")]
     U2,
 }

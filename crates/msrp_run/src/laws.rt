@@ -15,8 +15,7 @@ pub fn ordered_rows_are_merged()
     ensures { (plan : PlanModel) (books : ℕ → List Entry) (rows : List TraceRow) → IsInOrder plan books rows → (logs : List LogModel) × AreLogs plan logs books × (rows ≡ rows_of (merged (turns_of logs) plan.cores plan.ticks)) }
 {}
 
-/// Rows without a step aren't the history of a board that counts a request, and a core in its last
-/// tick isn't done.
+/// Rows without a step aren't a history with a request, and a core in its last tick isn't done.
 pub fn broken_runs()
     ensures request_without_row { ¬ IsServedAs runs.one_request 0 [] }
     ensures in_last_tick { ¬ AreDone 6 runs.one_request.books }

@@ -1,7 +1,6 @@
 //! A plan on threads: one worker for each core, on one board, and the trace of what they did.
 //!
-//! [`turn_on`] is one core's turn on a board. A [`Stage`] makes all turns, each on its core's
-//! thread.
+//! [`turn_on`] is one core's turn on a board. A [`Stage`] makes all turns, each on its thread.
 #![tactic(auto)]
 
 mod hire;

@@ -1,5 +1,4 @@
-//! A run with one thread for each core: the threads are started, the cores let in, and all are
-//! joined.
+//! A run with a thread for each core: threads are started, cores let in, and threads joined.
 ghost use Rattle.std.specs.Prelude.{◌≡◌, ◌+◌, ◌<◌, ◌≤◌};
 ghost use Rattle.msrp_plan.specs.Common.{ℕ, [], IfOk, IfErr, IsTrue, length, true, false, vec_capacity, vec_len, carries_ahead, IsPlan};
 ghost use Rattle.msrp_board.specs.declared.books.Conductor.TheVariants.{Opened, Aborted};
@@ -112,8 +111,7 @@ fn work_as<R: Wait, S: Stage, W: CoreWork>(
 }
 
 // Starts the thread for a core's work. The thread's promise is the closure's. If the start fails,
-// the run is called off and the core's work is done here: it sees the stop, and its seat joins the
-// others.
+// the run is called off, the core's work sees the stop here, and its seat joins the others.
 fn start<'s, E, R: Wait + Sync, S: Stage + Sync, W: CoreWork + 's>(
     scope: &'s Scope<'s, E>,
     rt: &'s R,
@@ -149,8 +147,7 @@ fn start<'s, E, R: Wait + Sync, S: Stage + Sync, W: CoreWork + 's>(
     }
 }
 
-// Starts the worker of the next core, with its seat from the rest. If it may not start, the run is
-// called off.
+// Starts the next core's worker, with its seat from the rest, or calls the run off.
 fn start_next<'s, E, R: Wait + Sync, S: Stage + Sync, H: Hire>(
     scope: &'s Scope<'s, E>,
     rt: &'s R,
@@ -180,8 +177,7 @@ fn start_next<'s, E, R: Wait + Sync, S: Stage + Sync, H: Hire>(
     )
 }
 
-// Starts the workers, in rising order, then lets the cores in. If a start fails, it calls the run
-// off.
+// Starts the workers, in rising order, then lets the cores in, or calls the run off.
 fn start_all<'s, E, R: Wait + Sync, S: Stage + Sync, H: Hire>(
     scope: &'s Scope<'s, E>,
     rt: &'s R,

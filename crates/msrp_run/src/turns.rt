@@ -43,9 +43,8 @@ fn turn_through<B: FirstSeat>(
     (row, back)
 }
 
-/// One core's turn on a board: the machine makes the row, and the board answers a call on a global
-/// resource. The row is logged with the board's place. It waits for nobody, allocates nothing and
-/// never fails.
+/// One core's turn on a board: the machine makes the row, and the board answers a call. The row is
+/// logged with the board's place. It waits for nobody, allocates nothing and never fails.
 pub fn turn_on(
     machine: &mut Machine<'_>,
     log: &mut CoreLog,

@@ -62,15 +62,13 @@ impl Waiting {
 pub enum Begun {
     /// The core wasn't let in; nothing has changed.
     Waits,
-    /// The core was let into its tick and had its turn, with this row. It stays in the tick until
-    /// [`finish`].
+    /// The core was let in and had its turn, with this row. It stays in the tick until [`finish`].
     Turn(Row),
     /// The core saw the stop.
     Stopped,
 }
 
-/// Begins a round: one look at the board and, if the core is let in, its turn by the stage. It
-/// waits for nobody.
+/// Begins a round without waiting: one look at the board and, if let in, the turn by the stage.
 pub fn begin<S: Stage>(
     machine: &mut Machine<'_>,
     log: &mut CoreLog,

@@ -34,8 +34,7 @@ pub(crate) struct Started {
     pub(crate) all: bool,
 }
 
-/// What the started threads left: their logs, the seat with all books, and whether all threads were
-/// started.
+/// What the started threads left: their logs, the seat with all books, and whether all started.
 #[derive(Drop)]
 pub(crate) struct Ended {
     pub(crate) logs: Vec<CoreLog>,

@@ -25,8 +25,7 @@ pub record IsMachineOf (plan : PlanModel) (c : ℕ) (x : MachineModel) : Type 0 
   pub stands : StandsAfter x log
   pub left : x.tick ≤ plan.ticks
 
--- a machine for each core of an accepted plan; each core drew at most one ticket in each of its
--- ticks
+-- a machine for each core of an accepted plan, with at most one ticket drawn in each of its ticks
 pub record AreCores (m : CoresModel) : Type 0 where
   pub accepted : IsPlan m.plan
   pub size : length m.machines ≡ m.plan.cores
@@ -76,8 +75,7 @@ pub record IsAs (due r : Row) : Type 0 where
   pub res : r.res ≡ due.res
   pub ahead : IfSome r.ahead (λ n. due.ahead ≡ Some n)
 
--- after any rows that the cores stand for and that leave the core a turn, this is the core's next
--- row
+-- after any rows that the cores stand for, with a turn left for the core, this is its next row
 abbrev pub MakesNext : CoresModel → ℕ → Row → Type 0
 MakesNext m c r = (rows : List Row) → StandFor m rows → IsDueInRun m.plan rows c → IsNextRow m.plan rows c r
 
@@ -113,8 +111,7 @@ pub record AreNew (plan : PlanModel) (n : ℕ) (machines : List MachineModel) : 
   pub size : length machines ≡ n
   pub each : (c : ℕ) (x : MachineModel) → slice_get machines c ≡ Some x → IsNew plan c x
 
--- one turn of a core: its machine moves on by one tick, and its call, if it makes one, enters the
--- queues
+-- one turn of a core: its machine moves on by a tick, and its call, if any, enters the queues
 pub record TakesTurn (old new : CoresModel) (c : ℕ) (r : Row) : Type 0 where
   pub plan : new.plan ≡ old.plan
   pub before : MachineModel

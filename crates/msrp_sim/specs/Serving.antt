@@ -1,5 +1,4 @@
--- How the tickets of the queues represent the locks of the resources, and what one more call does
--- to them.
+-- How the tickets represent the locks of the resources, and what one more call does to them.
 use Rattle.std.specs.Prelude.{◌==◌, ◌≡◌, ◌≤◌, ◌+◌, ◌-◌}
 use Rattle.msrp_plan.specs.Common.{ℕ, List, Bool, false, slice_index_or, ⊤, claim_with, IsDueCall, FifoLock, Answers, lock_after}
 use Rattle.msrp_plan.specs.declared.units.Call.{Call}
@@ -33,8 +32,7 @@ is_served q c g = ticket_of q c == (queue_of q g).serving
 abbrev pub AreDrawn : Queues → ℕ → Type 0
 AreDrawn q n = (g : ℕ) → ((queue_of q g).next ≤ n) × ((queue_of q g).serving ≤ n)
 
--- each core holds or awaits what its claim and the locks say, and a resource's tickets are its
--- lock's
+-- each core holds or awaits what its claim and the locks say, and tickets are the locks'
 pub record IsServing (locks : ℕ → FifoLock) (claims : ℕ → Phase) (q : Queues) : Type 0 where
   pub stances : (c : ℕ) → IsClaim locks c (claims c)
   pub tickets : (g : ℕ) → IsTicketed (locks g).queue (queue_of q g).next (queue_of q g).serving (ticket_of q)

@@ -11,8 +11,7 @@ pub record SimModel : Type 0 where
   pub turn : ℕ
   pub cores : CoresModel
 
--- the simulation made these rows, in its order: each was the next legal one of a core that had a
--- turn left
+-- the simulation made these rows, in its order: each was the next legal one of its core
 pub record HasMade (sim : SimModel) (rows : List Row) : Type 0 where
   pub order : core_order rows ≡ take sim.turn sim.order
   pub plan : sim.cores.plan ≡ sim.plan

@@ -51,8 +51,7 @@ pub record IsTurnPort (before : List PortCall) (first queues : Queues) (call : O
 abbrev pub no_queues : Queues
 no_queues = record { queues = []; tickets = [] }
 
--- the call of a turn: the row is the one that it makes, and it is allowed and answered from the
--- tickets
+-- the call of a turn, which makes the row, is allowed and answered from the tickets
 pub record MakesCallOf (q : Queues) (old new : MachineModel) (r : Row) (made : Option PortCall) : Type 0 where
   pub res : ResId
   pub resource : r.res ≡ Some res

@@ -31,8 +31,7 @@ impl TickPlace {
     }
 }
 
-/// An order of turns: each core has one in each tick. A given list may violate this; see
-/// [`Order::is_of`].
+/// An order of turns, one of each core in each tick; for a given list see [`Order::is_of`].
 #[derive(Debug, Drop)]
 pub enum Order {
     /// Rising cores in each tick.
@@ -106,8 +105,7 @@ impl Order {
         self.core_at(plan, &at)
     }
 
-    // The core of the turn at this position, in any order. Rising and falling cores need no
-    // division.
+    // The core of the turn at this position, in any order; rising and falling need no division.
     #[inline(never)]
     fn core_in_order(&self, plan: &Plan, at: &TickPlace) -> CoreId
         requires place { at.now.place < plan.now.cores }

@@ -39,8 +39,7 @@ impl<'a> Model for Simulation<'a> {
 
 impl<'a> Simulation<'a> {
     /// A simulation before its first turn, with all the memory that it will ever need; [`Memory`]
-    /// only if memory runs out. The levels are the plan's, and the order is one of the plan
-    /// ([`Order::is_of`]).
+    /// only if it runs out. The levels are the plan's, and so is the order ([`Order::is_of`]).
     pub fn with_room(
         alloc: Global,
         plan: &'a Plan,
@@ -63,8 +62,7 @@ impl<'a> Simulation<'a> {
         })
     }
 
-    /// The next turn if it is known to repeat its core's last row. Otherwise none, and nothing
-    /// changes.
+    /// The next turn if it repeats its core's last row. Otherwise none, and nothing changes.
     #[inline(always)]
     pub fn repeat(&mut self) -> Option<Row>
         requires { self.old.turn < self.old.plan.cores * self.old.plan.ticks }
@@ -82,8 +80,8 @@ impl<'a> Simulation<'a> {
         Some(row)
     }
 
-    /// The next turn: its core makes a row, and a global resource answers at once. It never fails
-    /// and needs no memory.
+    /// The next turn: its core makes a row, and a resource answers at once. Never fails or
+    /// allocates.
     #[inline(always)]
     pub fn turn(&mut self) -> Row
         requires { self.old.turn < self.old.plan.cores * self.old.plan.ticks }
@@ -102,8 +100,7 @@ impl<'a> Simulation<'a> {
 /// Why a plan was not simulated.
 #[derive(Clone, Copy, Debug, Error, PartialEq, Eq)]
 pub enum SimError {
-    /// The given list doesn't name each core of the plan once in each tick. Checked before any
-    /// allocation.
+    /// The given list doesn't name each core once in each tick. Checked before any allocation.
     #[error("S1: the list is no order of the cores")]
     S1,
     /// Out of memory.

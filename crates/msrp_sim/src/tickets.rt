@@ -1,5 +1,4 @@
-//! First-in-first-out queues as tickets: two numbers for each resource and one for each core, no
-//! lists.
+//! First-in-first-out queues as tickets: two numbers a resource and one a core, no lists.
 ghost use Rattle.std.specs.Prelude.{◌≡◌, ◌<◌};
 ghost use Rattle.msrp_plan.specs.Common.{ℕ, slice_index_or, free_lock, most_cores, most_resources, most_rows};
 ghost use Rattle.msrp_core.specs.Ports.{asked, HasAhead};

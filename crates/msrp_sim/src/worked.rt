@@ -1,5 +1,4 @@
-//! Worked orders, from the definitions alone. Each function does nothing; its contract is the
-//! example.
+//! Worked orders, from the definitions alone. Each function's contract is the example.
 ghost use Rattle.std.specs.Prelude.{◌≡◌, ◌∷◌};
 ghost use Rattle.msrp_plan.specs.Common.{[]};
 ghost use Rattle.msrp_sim.specs.Orders.{cores_of};

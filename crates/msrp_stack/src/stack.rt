@@ -85,8 +85,8 @@ fn room(alloc: Global, plan: &Plan, core: CoreId) -> Result<Vec<Started>, Memory
 }
 
 impl<'a> CeilingStack<'a> {
-    /// A stack without a started job, with all the memory that it will ever need; [`Memory`] only
-    /// if it runs out.
+    /// A stack without a started job, with all memory that it needs; [`Memory`] only if it runs
+    /// out.
     pub fn with_room(
         alloc: Global,
         plan: &'a Plan,

@@ -4,8 +4,7 @@ use Rattle.msrp_plan.specs.Common.{ℕ, List, Some, None, length, slice_get, tak
 use Rattle.msrp_plan.specs.declared.faults.PlanFault.{PlanFault}
 use Rattle.msrp_text.specs.Reading.{fault_after, plan_told}
 
--- the rule that a record violates, given those before it: records are counted from 1, the end as
--- one more
+-- the rule that a record violates, given the earlier ones: counted from 1, the end as one more
 abbrev pub fault_of_record : List (List (List ℕ)) → ℕ → Option PlanFault
 fault_of_record records number = fault_after (take (number - 1) records) (slice_get records (number - 1))
 

@@ -31,9 +31,8 @@ abbrev pub begins_record : List ℕ → Bool
 begins_record [] = false
 begins_record (b ∷ rest) = not (is_break b)
 
--- the record of that number begins in that line: what follows it is the records from it on, and all
--- earlier lines end before it
--- on, and all lines before that one end in what stands before
+-- the record of that number begins in that line: the text is cut in two where a record begins, the
+-- rest has the records from this one on, and all earlier lines end before it
 pub record BeginsIn (text : List ℕ) (number line : ℕ) : Type 0 where
   pub before : List ℕ
   pub rest : List ℕ
@@ -52,8 +51,7 @@ last_behind before (b ∷ rest) = last_behind b rest
 abbrev pub byte_before : {R : Type 0} → Lines R → ℕ
 byte_before lines = if lines.begun then slice_index lines.buffer (lines.at - 1) else 0
 
--- this many records were taken, a line each, and the empty lines among and after them were counted,
--- if they fit
+-- this many records were taken, a line each, and the empty lines so far were counted, if they fit
 pub record HasTaken {R : Type 0} (remaining : R → Option (List ℕ)) (text : List ℕ) (number : ℕ) (lines : Lines R) : Type 0 where
   pub before : List ℕ
   pub left : List ℕ
@@ -78,7 +76,6 @@ abbrev pub empty_before : {R : Type 0} → RecordReader R → Option ℕ
 empty_before r = empty_at r.first r.way
 
 -- a reader has read this many records, and knows the last one's line if it knows the empty lines
--- before it
 pub record HasRead {R : Type 0} (remaining : R → Option (List ℕ)) (text : List ℕ) (number : ℕ) (r : RecordReader R) : Type 0 where
   pub taken : HasTakenBy remaining text number r.way
   pub line : (empty : ℕ) → empty_before r ≡ Some empty → 1 ≤ number → BeginsIn text number (number + empty)

@@ -54,8 +54,7 @@ Stands text row (front.Line line) = IsFront text line row
 Stands text row front.Part = NoLine LONGEST text
 Stands text row front.Other = NoLine LONGEST text
 
--- the plain line of these fields at the front of a text, or none if none is there that is short
--- enough
+-- the plain line of these fields at the front of a text, or none if there is none short enough
 abbrev pub IsPeeked : List ℕ → List (List ℕ) → Option PlainLine → Type 0
 IsPeeked text row found = MatchOption found (NoLine LONGEST text) (λ line. IsFront text line row)
 

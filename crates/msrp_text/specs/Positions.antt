@@ -38,8 +38,7 @@ position_plan (Cores version) = empty_plan 0 0
 position_plan (Ticks version cores) = empty_plan cores 0
 position_plan (Body version plan) = plan
 
--- a record is refused with its position's fault if there is one; otherwise it is taken, unless
--- memory runs out
+-- a record is refused with its position's fault, if any; otherwise taken, unless memory runs out
 abbrev pub IsTaken : {A : Type 0} → Option PlanFault → A → Result A PlanFault → Type 0
 IsTaken (Some fault) next r = r ≡ Err fault
 IsTaken None next r = (r ≡ Err Memory) ⊎ (r ≡ Ok next)
@@ -73,8 +72,7 @@ unread_at stop.Memory = Told text.Memory
 abbrev pub most_records : ℕ
 most_records = 4294967294
 
--- the records give their plan or the answer in its place, unless there are more than can be
--- numbered
+-- the records give their plan or the answer in its place, unless there are too many to number
 abbrev pub ReadsAs : List (List (List ℕ)) → Result PlanModel Unread → Type 0
 ReadsAs records (Ok plan) = Answers (Ok plan) (plan_of records)
 ReadsAs records (Err (Told error)) = Answers (Err error) (plan_of records)

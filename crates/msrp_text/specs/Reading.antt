@@ -153,8 +153,7 @@ list_fault V2 plan fields =
     else if has_word fields 0 (codes "release") then release_record_fault plan fields
     else Some OutOfPlace
 
--- every later record is a resource, a task, or units or a release of the newest task; the end
--- completes the plan
+-- later records are resources, tasks, or units or releases of the newest task; then comes the end
 abbrev pub body_fault : TextVersion → PlanModel → Option (List (List ℕ)) → Option PlanFault
 body_fault version plan None = finish_fault plan
 body_fault version plan (Some fields) =
@@ -163,8 +162,7 @@ body_fault version plan (Some fields) =
     else if has_word fields 0 (codes "op") then op_record_fault plan fields
     else list_fault version plan fields
 
--- the first rule that the next record violates, given the earlier ones; None is the end of the
--- records
+-- the first rule that the next record violates, given the earlier ones; None is the end
 unfoldable pub fault_after : List (List (List ℕ)) → Option (List (List ℕ)) → Option PlanFault
 fault_after [] next = version_fault next
 fault_after (version ∷ []) next = cores_fault next

@@ -76,14 +76,12 @@ bytes_ahead r = ahead_at r.way
 abbrev pub records_left : {R : Type 0} → (R → Option (List ℕ)) → RecordReader R → Option (List (List (List ℕ)))
 records_left remaining r = left_at remaining r.way
 
--- a read returns the first of the records that were left, and leaves the others; if none was left
--- it says so
+-- a read returns the first of the records left, and leaves the others; if none was left, says so
 abbrev pub GivesNext : List (List (List ℕ)) → Bool → List (List ℕ) → Option (List (List (List ℕ))) → Type 0
 GivesNext [] found row after = found ≡ false
 GivesNext (r ∷ rest) found row after = (found ≡ true) × (row ≡ r) × (after ≡ Some rest)
 
--- the next of the records that were left, if they are known, has these fields, and the others are
--- left
+-- the next of the records left, if they are known, has these fields, and the others are left
 abbrev pub GivesLine : Option (List (List (List ℕ))) → List (List ℕ) → Option (List (List (List ℕ))) → Type 0
 GivesLine old fields new = (left : List (List (List ℕ))) → old ≡ Some left → GivesNext left true fields new
 

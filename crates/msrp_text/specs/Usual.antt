@@ -33,8 +33,7 @@ pub record StandsBehind (text front field : List ℕ) (taken : ℕ) : Type 0 whe
   pub ended : EndsLine (front ++ field) (take taken text)
   pub inside : list_any is_low field ≡ false
 
--- the first line of a text, of n bytes with its end, is plain, and a plan takes or refuses its
--- record
+-- the first line of a text, of n bytes with its end, is plain; a plan takes or refuses its record
 pub record IsAdded (version : TextVersion) (old new : PlanModel) (text : List ℕ) (judged : Result (Unit {0}) PlanFault) (taken : ℕ) : Type 0 where
   pub line : List ℕ
   pub some : 0 < taken

@@ -23,8 +23,7 @@ fn stopped_by(kind: &ErrorKind) -> Stopped
     }
 }
 
-/// The records of a text: comma-separated fields, no header row, any number of fields; an empty
-/// line is no record.
+/// The records of a text: fields between commas, no header row; an empty line is no record.
 #[derive(Drop)]
 pub(crate) struct CsvRecords<R> {
     rows: Reader<R>,

@@ -75,8 +75,7 @@ fn front_to(text: &[u8], start: usize, at: usize, row: &mut ByteRecord) -> Resul
     line_to(text, start, at, at + 1, row)
 }
 
-// Whether a plain line can't have this byte here: a quote, or at the start that of a byte order
-// mark.
+// Whether no plain line has this byte here: a quote, or at the start a byte order mark's.
 fn is_other(byte: u8, at: usize) -> bool
     ensures { result ≡ ((byte == 34) || ((at == 0) && (byte == 239))) }
 {
@@ -219,8 +218,7 @@ pub(crate) fn begins_with(text: &[u8], front: &[u8]) -> bool
     is_short_same(&text[..count], front)
 }
 
-// Whether a text begins with another; without a call if that has 8 to 64 bytes, as most rows after
-// the tick.
+// Whether a text begins with another; without a call if that has 8 to 64 bytes, as most rows have.
 #[inline(always)]
 pub(crate) fn begins_with_long(text: &[u8], front: &[u8]) -> bool
     ensures begins { result ≡ true → (after : List ℕ) × (text.now ≡ front.now ++ after) }
@@ -252,8 +250,7 @@ pub(crate) fn ends_line(text: &[u8]) -> bool
     text.ends_with(b"\n")
 }
 
-/// The bytes of a whole line with its end, if a text that begins with its first part begins with
-/// it.
+/// The bytes of a whole line with its end, if it is at the front of a text that has its first part.
 pub(crate) fn line_behind(text: &[u8], front: &[u8], rest: &[u8]) -> Option<usize>
     requires { (after : List ℕ) × (text.now ≡ front.now ++ after) }
     ensures line { IfSome result (λ taken. (0 < taken) × (taken ≤ length text.now) × EndsLine (front.now ++ rest.now) (take taken text.now)) }

@@ -13,8 +13,7 @@ pub fn first_refusal()
     ensures { (records : List (List (List ℕ))) (fault : PlanFault) (number : ℕ) → plan_of records ≡ Err (At fault number) → IsFirstRefused records fault number }
 {}
 
-/// In an accepted text no record violates a rule, nor does the end, and the plan is the records'
-/// plan.
+/// In an accepted text no record, nor the end, violates a rule, and the plan is the records'.
 pub fn acceptance()
     ensures { (records : List (List (List ℕ))) (plan : PlanModel) → plan_of records ≡ Ok plan → IsAccepted records plan }
 {}

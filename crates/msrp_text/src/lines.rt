@@ -26,8 +26,7 @@ pub(crate) struct Lines<R> {
     buffer: [u8; ROOM],
     at: usize,
     end: usize,
-    // Whether a line was taken, so the rest isn't the start of the text. The last byte taken is
-    // before `at`.
+    // Whether a line was taken: the rest isn't the text's start, and the last byte is before `at`.
     begun: bool,
     // The number of empty lines passed, while it fits.
     passed: Option<u32>,
@@ -107,8 +106,8 @@ impl<R: Read> Lines<R> {
         }
     }
 
-    // Passes a line end that is next, or a part of one; false if none is. The line that ends there
-    // is empty.
+    // Passes a line end, or a part of one; false if none is next. The line that ends there is
+    // empty.
     fn pass_end(&mut self) -> bool
         ensures none { NoLine LONGEST (lines_ahead self.new) → NoLine LONGEST (lines_ahead self.old) }
         ensures same { KeepsRecords (records_ahead R.remaining self.old) (records_ahead R.remaining self.new) }
@@ -141,8 +140,7 @@ impl<R: Read> Lines<R> {
         }
     }
 
-    /// Reads the next line's fields into `row` if it is plain, without taking it. Reads no further
-    /// than the line.
+    /// Reads the next line's fields into `row` if it is plain; takes nothing, reads no further.
     pub(crate) fn peek(&mut self, row: &mut ByteRecord) -> Result<Option<PlainLine>, AllocError>
         ensures line { IfOk result (λ found. IsPeeked (lines_ahead self.new) (fields_of row.new) found) }
         ensures none { NoLine LONGEST (lines_ahead self.new) → NoLine LONGEST (lines_ahead self.old) }
@@ -161,7 +159,6 @@ impl<R: Read> Lines<R> {
 
     /// Reads ahead once more; false if no byte came. After a failed read nothing more is read
     /// ahead, and the read after the bytes that are there fails.
-    /// there fails.
     #[inline(never)]
     pub(crate) fn fetch(&mut self) -> bool
         ensures kept { Keeps (unread R.remaining self.old) (unread R.remaining self.new) }

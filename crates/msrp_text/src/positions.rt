@@ -271,8 +271,7 @@ fn read_record(
     }
 }
 
-/// Reads one more record in place, so that no plan is moved. After a refusal the position means
-/// nothing.
+/// Reads one more record, in place. After a refusal the position means nothing.
 #[tactic(auto, unfolding(crate::specs::Positions::position_fault, crate::specs::Positions::position_with))]
 pub(crate) fn advance(
     alloc: Global,

@@ -21,8 +21,7 @@ use thiserror::Error;
 /// Why a text gave no plan.
 #[derive(Clone, Copy, Debug, Error, PartialEq, Eq)]
 pub enum TextError {
-    /// A record is refused, by its number, counted from 1. The text's end counts as one more
-    /// record.
+    /// A record is refused, by its number, counted from 1; the end counts as one more record.
     #[error("record {number}: {fault}")]
     At { fault: PlanFault, number: u32 },
     /// A read of the source failed.
@@ -163,9 +162,8 @@ fn read_records<R: Read>(alloc: Global, source: &mut Source<R>) -> Result<Plan, 
 /// `msrp,2` there may also be tasks with listed releases: `listed,NAME,CORE,DEADLINE`, then
 /// `release,TICK` for each release, then the units.
 ///
-/// A record is checked by itself first: whether it is known and in its place (P2), its number of
-/// fields (P3), its numbers (P4); then by the builder. Records before a failed read are checked
-/// first.
+/// A record is checked by itself first: whether it is known and in place (P2), its number of fields
+/// (P3), its numbers (P4); then by the builder. Records before a failed read come first.
 ///
 /// Once a read of the source has failed, the answer is [`TextError::Read`] and no other.
 pub fn read_plan<R: Read>(alloc: Global, source: &mut Source<R>) -> Result<Plan, TextError>

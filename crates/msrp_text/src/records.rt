@@ -49,8 +49,7 @@ fn by_csv<R: Read>(way: Way<R>, alloc: Global) -> (Way<R>, ())
     }
 }
 
-/// The records of a text: comma-separated fields, no header row, any number of fields; an empty
-/// line is no record.
+/// The records of a text: fields between commas, no header row; an empty line is no record.
 ///
 /// Plain lines are taken where they are: lines without a quote or a byte order mark, not empty,
 /// shorter than [`LONGEST`], that end with LF, CR or CRLF. `csv` reads the first other line and all
@@ -134,8 +133,7 @@ impl<R: Read> RecordReader<R> {
         self.meets_apart(front, line)
     }
 
-    // As `meets_behind`, if the first text may not be next, or the line may end without a line
-    // feed.
+    // As `meets_behind`, if the first text may not be next, or the line end differs.
     #[inline(never)]
     fn meets_apart(&mut self, front: &[u8], line: &[u8]) -> bool
         ensures taken { result ≡ true → (rest : List ℕ) → line.now ≡ rest ++ codes "\n" → is_plain (front.now ++ rest) ≡ true → GivesLine (records_left R.remaining self.old) (split_commas (front.now ++ rest)) (records_left R.remaining self.new) }
@@ -213,8 +211,7 @@ impl<R: Read> RecordReader<R> {
         }
     }
 
-    /// Takes bytes that were read ahead: a plain line with its end, whose fields were the next
-    /// record.
+    /// Takes bytes read ahead: a plain line with its end, whose fields were the next record.
     #[inline]
     pub(crate) fn take_line(&mut self, count: usize)
         requires count { count ≤ length (bytes_ahead self.old) }

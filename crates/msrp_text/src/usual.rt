@@ -1,4 +1,4 @@
-//! A short way for the usual lines of a plan: `op,run,N`, `op,lock,NAME`, `op,unlock,NAME`,
+//! A short way for a plan's usual lines: `op,run,N`, `op,lock,NAME`, `op,unlock,NAME`,
 //! `release,TICK`.
 ghost use Rattle.std.specs.Prelude.{◌≡◌, ◌==◌};
 ghost use Rattle.msrp_plan.specs.Common.{ℕ, List, Some, None, codes, false};
@@ -60,8 +60,7 @@ fn resource_behind(builder: &PlanBuilder, text: &[u8], front: &[u8]) -> Option<(
     Some((res, front.len() + field.taken))
 }
 
-// The units of the line at the front of a text, and its bytes. Its fourth byte selects one of the
-// three.
+// The units of the line at a text's front, and its bytes; its fourth byte selects one of three.
 fn step_ahead(builder: &PlanBuilder, text: &[u8]) -> Option<(Step, usize)>
     ensures { IfSome result (λ found. TellsStep builder.now text.now (found.0) (found.1)) }
 {

@@ -83,8 +83,7 @@ pub fn units()
     ensures no_such_resource { plan_of (csv_records (head ++ codes "task,a,0,3,3,0\nop,lock,r\n")) ≡ refused Undeclared 5 }
 {}
 
-/// Lines in which records begin: after LF, CR or CRLF, after empty lines, and after a field with a
-/// line end in it.
+/// Lines in which records begin: after LF, CR or CRLF, empty lines, and a field with a line end.
 pub fn record_lines()
     ensures first { BeginsIn (codes "a\nb\n") 1 1 }
     ensures second { BeginsIn (codes "a\nb\n") 2 2 }

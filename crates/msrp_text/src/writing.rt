@@ -179,8 +179,7 @@ fn write_tasks<W: Write>(out: &mut Sink<W>, plan: &Plan)
 }
 
 /// Writes a plan as text: version 2 if it has a listed task, otherwise 1. It reads back as an equal
-/// plan. Adjacent units of work are one record. After a write fault the output is a prefix of the
-/// text.
+/// plan. Adjacent units of work are one record. On a write fault the output is a prefix of it.
 pub fn write_plan<W: Write>(out: &mut Sink<W>, plan: &Plan) -> Result<(), WriteFault>
     ensures plan { IsPlan plan.now }
     ensures wrote { Wrote W.contents out.old out.new (plan_text plan.now) }

@@ -183,8 +183,8 @@ fn next_tick(rt: &impl Abort, board: &Board, zero: &mut BoardSeat, one: &mut Boa
     enter_both(rt, board, zero, one);
 }
 
-/// The answers to both cores' requests in tick 0, and the second core's poll in tick 1. Both are
-/// let into tick 2.
+/// The answers to both requests in tick 0, and to the second core's poll in tick 1; both enter tick
+/// 2.
 fn ask_both(
     rt: &impl Abort,
     board: &Board,

@@ -204,8 +204,7 @@ fn records_over_the_border(rt: HostRuntime) -> Result<(), Fail> {
     Ok(())
 }
 
-// Takes the next line if it is a first text, a digit between commas, and the rest with a line feed;
-// whether it is.
+// Takes the next line if it is a text, a digit between commas, and the rest with a line feed.
 fn meets<R: Read>(records: &mut RecordReader<R>, front: &[u8], line: &[u8]) -> bool {
     records.digit_after(front).is_some() && records.meets_behind(front, line)
 }
@@ -226,8 +225,7 @@ fn met_after_one(
     Ok((met, records_told(alloc, &mut records)?))
 }
 
-// A text, a line in two parts (the second with a line feed if it can be met), whether it is met,
-// the records left.
+// A text, a line in two parts, whether it is met, and the records left.
 const FORESEEN: [(&[u8], &[u8], &[u8], bool, &[u8]); 14] = [
     (b"1\nab,2,c\nd", b"ab", b",2,c\n", true, b"d|/"),
     (b"1\nab,2,c\r\nd", b"ab", b",2,c\n", true, b"d|/"),

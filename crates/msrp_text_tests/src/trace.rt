@@ -104,8 +104,7 @@ fn texts_are_read_and_written_again(rt: HostRuntime) -> Result<(), Fail> {
     Ok(())
 }
 
-// Whether each of these rows in turn is met by its own text, and not before that is made or in
-// another tick.
+// Whether each of these rows in turn is met by its own text, once made, and in its own tick only.
 fn meets_each<R: Read>(plan: &Plan, reader: &mut TraceReader<'_, R>, rows: &[Row]) -> bool {
     for row in rows.iter() {
         let mut texts = RowTexts::new(plan, reader.version());

@@ -7,8 +7,7 @@ use Rattle.msrp_plan.specs.declared.rows.TextVersion.{TextVersion}
 use Rattle.msrp_plan.specs.declared.bytes.Sink.{Sink}
 use Rattle.msrp_trace.specs.TraceText.{ahead_fields, job_text, res_text, task_text}
 
--- a page and its sink took a text: what the page doesn't have of its old text and of this one was
--- written
+-- a page and its sink took a text: what the page hasn't kept of both texts was written
 pub record Gathers {W : Type 0} (contents : W → Option (List ℕ)) (before : List ℕ) (old : Sink W) (after : List ℕ) (new : Sink W) (text : List ℕ) : Type 0 where
   pub written : List ℕ
   pub wrote : Wrote contents old new written

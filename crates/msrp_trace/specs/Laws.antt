@@ -28,8 +28,7 @@ abbrev pub as_read : TextVersion → Row → Row
 as_read V1 r = without_ahead r
 as_read V2 r = r
 
--- the row's ahead is what its version requires: none in version 1, one in each queue row in version
--- 2
+-- the row's ahead fits its version: none in version 1, one in each queue row in version 2
 abbrev pub has_told_ahead : TextVersion → Row → Bool
 has_told_ahead V1 r = is_none r.ahead
 has_told_ahead V2 r = carries_its_ahead r

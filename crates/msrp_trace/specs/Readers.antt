@@ -39,8 +39,7 @@ state_after (Ok (Some r)) = Rows
 state_after (Ok None) = Ended
 state_after (Err e) = Failed
 
--- the rows that a reader has left, and the refusal after them, if what the reader underneath has
--- left is known
+-- the rows that a reader has left, and the refusal after them, if its bytes are known
 abbrev pub told_left : {R : Type 0} → (R → Option (List ℕ)) → TraceReader R → Option Told
 told_left remaining t = left_at t.state (option_map (told_after t.version t.plan.now t.number) (records_left (λ s. source_remaining remaining s.now) t.records))
 
@@ -104,8 +103,7 @@ pub record IsTextOf {R : Type 0} (t : TraceReader R) (texts : TextsModel) (n cor
   pub whole : is_told_whole t.version t.plan.now r ≡ true
   pub text : text_of_core texts core ≡ after_tick t.version t.plan.now r
 
--- the bytes read ahead begin with the text of the tick, which is stored, and a further row may
--- follow
+-- the bytes read ahead begin with the tick's text, which is stored, and a row may follow
 pub record IsAtTick {R : Type 0} (n : ℕ) (t : TraceReader R) : Type 0 where
   pub state : t.state ≡ Rows
   pub kept : t.tick.tick ≡ n
@@ -116,8 +114,7 @@ pub record IsAtTick {R : Type 0} (n : ℕ) (t : TraceReader R) : Type 0 where
 abbrev pub record_read : {R : Type 0} → TraceReader R → List (List ℕ)
 record_read t = fields_of t.fields
 
--- of these records those after the reader's count are left, if what the reader underneath has left
--- is known
+-- of these records those after the reader's count are left, if its bytes are known
 abbrev pub StandsIn : {R : Type 0} → (R → Option (List ℕ)) → List (List (List ℕ)) → TraceReader R → Type 0
 StandsIn remaining records t = records_left (λ s. source_remaining remaining s.now) t.records ≡ Some (drop t.number records)
 
@@ -133,8 +130,7 @@ StandsBehind remaining records (Ok None) t = ⊤
 StandsBehind remaining records (Err error) t = IsRecordOf records error (record_read t)
 
 -- ---- the line of a record
--- a reader has read its count of a text's records, and knows the last one's line, if it can be
--- known
+-- a reader has read its count of a text's records, and knows the last one's line, if it can
 abbrev pub HasReadIn : {R : Type 0} → (R → Option (List ℕ)) → List ℕ → TraceReader R → Type 0
 HasReadIn remaining text t = HasRead (λ s. source_remaining remaining s.now) text t.number t.records
 

@@ -250,8 +250,8 @@ impl CoreText {
     }
 }
 
-/// A row that was written, and its text. While its core does the same, its next rows differ only in
-/// the tick.
+/// A written row, and its text. While its core does the same, its next rows differ only in the
+/// tick.
 #[derive(Drop)]
 pub(crate) struct RowLine {
     row: Option<Row>,
@@ -282,8 +282,7 @@ impl RowLine {
         }
     }
 
-    // Whether the row differs from this one only in the tick. A row with an ahead never counts as
-    // equal.
+    // Whether the row differs from this one only in the tick; false for one with an ahead.
     fn is_of(&self, row: &Row) -> bool
         ensures kind { result ≡ true → IsSomeAnd self.now.row (λ last. last.kind ≡ row.now.kind) }
         ensures place { result ≡ true → IsSomeAnd self.now.row (λ last. is_same_place last row.now ≡ true) }

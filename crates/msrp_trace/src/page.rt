@@ -55,8 +55,7 @@ impl Page {
         }
     }
 
-    /// Adds a text. If the page has no room for the longest one of its type, what was gathered is
-    /// written first.
+    /// Adds a text. If there is no room for the longest one of its type, writes what was gathered.
     #[inline(always)]
     pub(crate) fn add<W: Write, const N: usize>(&mut self, out: &mut Sink<W>, text: &Text<N>)
         requires { N ≤ PAGE }

@@ -42,9 +42,8 @@ enum ReaderState {
 /// plan's numbers of cores and ticks, then for each row `tick,core,kind,task,job,resource`, in
 /// version 2 with a seventh field `ahead`; `-` is a field without a value.
 ///
-/// Row i is record i + 1. A record is checked for its number of fields (R2), its numbers (R3), its
-/// kind (R4), its shape (R6) and its names (R5), in this order, but not for legality or the number
-/// of rows.
+/// Row i is record i + 1. A record is checked for its number of fields (R2), numbers (R3), kind
+/// (R4), shape (R6) and names (R5), in this order, not for legality or the number of rows.
 #[derive(Drop)]
 pub struct TraceReader<'a, R> {
     plan: &'a Plan,
@@ -207,9 +206,8 @@ impl<'a, R: Read> TraceReader<'a, R> {
         &self.fields
     }
 
-    /// The line, from 1, of the record of that number: the last one read, so after a refusal the
-    /// refused one.
-    /// one, where it is known, as [`RecordReader::empty_lines`] says.
+    /// The line, from 1, of the record of that number, if it is the last one read (after a refusal
+    /// the refused one) and its line is known, as [`RecordReader::empty_lines`] says.
     pub fn line_of(&self, number: u32) -> Option<u64>
         ensures line { (text : List ℕ) → HasReadIn R.remaining text self.now → IfSome result (BeginsIn text number) }
         ensures known { (text : List ℕ) → HasReadTo R.remaining text number self.now → 1 ≤ number → length text < 2 ^ 32 → reads_csv self.now.records ≡ false → IsSome result }

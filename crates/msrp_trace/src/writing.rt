@@ -19,9 +19,8 @@ use std::array;
 use std::io::Write;
 use std::marker::Model;
 
-/// Writes trace text of a plan, in one version. Each call is given the sink, which is written to
-/// some kilobytes at a time. A row that differs only in the tick from its core's last one reuses
-/// its text.
+/// Writes trace text of a plan, in one version, some kilobytes at a time, to the sink given to each
+/// call. A row that differs only in the tick from its core's last one reuses its text.
 #[derive(Drop)]
 pub struct TraceWriter<'a> {
     plan: &'a Plan,

@@ -1,5 +1,4 @@
--- The pieces of an audit: which rule each of them finds violated by a row, and which fault it
--- reports.
+-- The pieces of an audit: which rule each finds violated by a row, and which fault it reports.
 use Rattle.std.specs.Prelude.{◌∷◌, ◌++◌, ◌==◌, ◌&&◌, ◌≡◌, ◌≤◌, ◌+◌, ◌-◌, ◌*◌, ◌/◌, if◌then◌else◌}
 use Rattle.msrp_plan.specs.Common.{ℕ, List, Bool, nat_lt, nat_le, Option, Some, None, IfSome, fold, length, PlanModel, is_global, is_of, is_on, IsRunStart, is_in_turn, is_of_core, is_chosen, is_next_action, is_fifo_reply}
 use Rattle.msrp_plan.specs.declared.faults.Fault.{Fault}

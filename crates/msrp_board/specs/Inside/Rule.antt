@@ -1,5 +1,4 @@
--- The rule of a board's words: what holds of the words and of all seats' books, and what each step
--- promises.
+-- The rule of a board's words: what holds of the words and all books, and what each step promises.
 use Rattle.msrp_plan.specs.Common.{ℕ, suc, List, [], length, map, Bool, true, false, Some, None, replicate, slice_index, list_any, AllByRecursion}
 use Rattle.msrp_plan.specs.declared.units.Call.{Call}
 use Rattle.msrp_plan.specs.declared.units.Call.TheVariants.{Ask, Poll, Leave}
@@ -193,9 +192,9 @@ page_with_poll g n b = page_with_entry g (high n + low n) (Poll (low n == ticket
 abbrev pub page_with_leave : ℕ → ℕ → Page → Page
 page_with_leave g n = page_with_entry g (high n + low n) Leave
 
--- what a step on a resource's ticket word promises, which makes f of each page: in the word n that
--- it found, the low half isn't above the high one; the place is small, and after all that the pages
--- have of the resource
+-- what a step on a resource's ticket word promises, which makes f of each page: the word n that it
+-- found has no more releases than requests; the place is small, and after all that the pages have
+-- of it
 pub record Tells (f : ℕ → ℕ → Page → Page) (st : Step (Unit {0})) (me : Me (Unit {0}) View) (n : ℕ) (now : Me (Unit {0}) View) : Type 0 where
   pub changed : now ≡ (with_pages (f st.word n) me.0, me.1)
   pub order : low n ≤ high n

@@ -8,8 +8,7 @@ use Rattle.msrp_trace.specs.Gathering.{after_tick}
 use Rattle.msrp_trace.specs.Laws.{as_read, is_short, is_told_whole}
 use Rattle.msrp_trace.specs.Texts.{TextsModel, text_of_core}
 
--- the text is the row's, without its tick, and in each tick it reads back as that row, in the
--- version's text
+-- the text is the row's, without its tick, and in each tick it reads back as that row
 pub record IsKept (version : TextVersion) (plan : PlanModel) (text : List ℕ) (r : Row) : Type 0 where
   pub is : text ≡ after_tick version plan (as_read version r)
   pub whole : (t : ℕ) → is_short t ≡ true → is_told_whole version plan (in_tick t (as_read version r)) ≡ true

@@ -1,5 +1,4 @@
--- Also legal: core 1 has its turn first in tick 2, polls before core 0 releases, and is granted a
--- tick later.
+-- Also legal: core 1 goes first in tick 2, polls before core 0 releases, and is granted later.
 use Rattle.std.specs.Prelude.{List, [], ◌∷◌, codes}
 use Rattle.msrp_plan.specs.Plan.{PlanModel}
 use Rattle.msrp_plan.specs.Examples.Notation.{task, section, job, idle, run, take, queue, spin, grant, release, changed}

@@ -1,5 +1,4 @@
--- The jobs of one task run one after another, each from its own release on; in between the core
--- idles.
+-- A task's jobs run one after another, each from its release on; in between the core idles.
 use Rattle.std.specs.Prelude.{List, [], ◌∷◌, codes}
 use Rattle.msrp_plan.specs.Plan.{PlanModel}
 use Rattle.msrp_plan.specs.Examples.Notation.{task, works, job, idle, run, changed}

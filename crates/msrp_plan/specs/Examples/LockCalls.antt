@@ -1,5 +1,4 @@
--- Which calls a lock accepts and how it answers: four cores in its queue, and histories with one
--- wrong call.
+-- Which calls a lock accepts and how it answers: four cores in its queue, and wrong histories.
 use Rattle.std.specs.Prelude.{ℕ, List, [], ◌∷◌, true, false}
 use Rattle.msrp_plan.specs.declared.units.Call.{Call}
 use Rattle.msrp_plan.specs.declared.units.Call.TheVariants.{Ask, Poll, Leave}

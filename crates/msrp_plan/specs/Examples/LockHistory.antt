@@ -1,6 +1,5 @@
 -- Two cores call one lock: core 0 requests and holds it at once; core 1 learns that one is ahead,
--- spins, and is granted the lock after core 0 has released it. The handover a tick later, as the
--- lock sees it.
+-- spins, and is granted it after core 0's release. The lock's view of the handover a tick later.
 use Rattle.std.specs.Prelude.{ℕ, List, [], ◌∷◌, true, false}
 use Rattle.msrp_plan.specs.declared.units.Call.{Call}
 use Rattle.msrp_plan.specs.declared.units.Call.TheVariants.{Ask, Poll, Leave}

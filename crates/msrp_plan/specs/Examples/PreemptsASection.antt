@@ -1,5 +1,4 @@
--- A job of a level above the ceiling preempts a section: only lo uses r, so its ceiling is lo's
--- level.
+-- A job of a level above the ceiling preempts a section: only lo uses r, so the ceiling is low.
 use Rattle.std.specs.Prelude.{List, [], ◌∷◌, ◌++◌, codes}
 use Rattle.msrp_plan.specs.Plan.{PlanModel}
 use Rattle.msrp_plan.specs.Examples.Notation.{task, works, section, job, idle, run, runs, lock, unlock, changed}

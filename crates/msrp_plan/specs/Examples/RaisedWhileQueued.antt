@@ -1,5 +1,4 @@
--- A job queued for a global resource isn't preempted either: the ceiling is the highest level from
--- the request on.
+-- A job queued for a global resource isn't preempted either: the ceiling rises at the request.
 use Rattle.std.specs.Prelude.{List, [], ◌∷◌, codes}
 use Rattle.msrp_plan.specs.Plan.{PlanModel}
 use Rattle.msrp_plan.specs.Examples.Notation.{task, works, section, job, idle, run, take, queue, spin, grant, release, changed}

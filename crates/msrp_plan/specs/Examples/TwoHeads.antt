@@ -1,5 +1,4 @@
--- Two jobs are released at once: the one with the earlier deadline runs first, though it is
--- declared last.
+-- Two jobs are released at once: the earlier deadline runs first, though it is declared last.
 use Rattle.std.specs.Prelude.{List, [], ◌∷◌, codes}
 use Rattle.msrp_plan.specs.Plan.{PlanModel}
 use Rattle.msrp_plan.specs.Examples.Notation.{task, works, job, idle, run, changed}

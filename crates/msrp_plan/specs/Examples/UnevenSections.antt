@@ -1,4 +1,4 @@
--- Three cores; core 2 doesn't use g, so it adds nothing to the bound, and core 0 adds its longest
+-- Three cores; core 2 doesn't use g, so it adds nothing to the bound; core 0 adds its longest
 -- section.
 use Rattle.std.specs.Prelude.{[], ◌∷◌, ◌++◌, codes}
 use Rattle.msrp_plan.specs.Plan.{PlanModel}

@@ -1,5 +1,4 @@
--- The handover within a tick with replies to questions that the job can't ask: the action is wrong,
--- not the reply.
+-- The handover within a tick with replies to wrong questions: the action is wrong, not the reply.
 use Rattle.std.specs.Prelude.{List}
 use Rattle.msrp_plan.specs.Examples.Notation.{job, take, spin, changed}
 use Rattle.msrp_plan.specs.Examples.HandoverWithinATick.{rows}

@@ -17,8 +17,8 @@ ghost use Rattle.msrp_plan.specs.Examples.PreemptsASection as preempts_a_section
 ghost use Rattle.msrp_plan.specs.Examples.TwoHeads as two_heads;
 ghost use Rattle.msrp_plan.specs.declared.units.Call.TheVariants.{Ask, Poll, Leave};
 
-/// Rows that exceed one bound each: one overtaking, queued job, spin, section row or blocking row
-/// too many.
+/// Rows that exceed a bound each: an overtaking, queued job, spin, section or blocking row too
+/// many.
 pub fn broken_bounds()
     ensures overtaking { ¬ BoundedOvertaking handover_a_tick_later.plan broken_laws.overtaken_twice }
     ensures queues { ¬ ShortQueues handover_a_tick_later.plan broken_laws.third_in_the_queue }

@@ -12,16 +12,14 @@ pub fn runs_released()
     ensures { (plan : PlanModel) (rows : List Row) → IsRunStart plan rows → RunsReleased plan rows }
 {}
 
-/// Work conservation: a core idles exactly if each of its released jobs is finished. No ceiling
-/// makes a core idle.
+/// Work conservation: a core idles exactly if its released jobs are finished, whatever the ceiling.
 pub fn work_conservation()
     ensures { (plan : PlanModel) (rows : List Row) → IsPlan plan → IsRunStart plan rows → WorkConservation plan rows }
 {}
 
 /// Earliest deadline first under the ceiling (Baker 1991): a job that starts comes before every
-/// other released, unfinished job of its core, and its level is above the core's ceiling. Of the
-/// started jobs the first goes on; if the first unstarted one comes before it, that one isn't above
-/// the ceiling.
+/// other released, unfinished job of its core, and its level is above the ceiling. Of the started
+/// jobs the first goes on; an unstarted one before it isn't above the ceiling.
 pub fn earliest_deadline_first()
     ensures { (plan : PlanModel) (rows : List Row) → IsRunStart plan rows → EarliestDeadlineFirst plan rows }
 {}

@@ -7,9 +7,8 @@ ghost use Rattle.msrp_plan.specs.Examples.StretchEnds as stretch_ends;
 ghost use Rattle.msrp_plan.specs.Stretches.{StaysAgain};
 
 /// When a core's row repeats, with one repeat less left: its job has units of work next and no job
-/// of the core is released (the ceiling still holds back what it did); it idles and no job is
-/// released; or its job keeps spinning, even if jobs are released. Whether a poll spins is the
-/// queue's answer.
+/// is released (the ceiling still holds back what it did); it idles and no job is released; or its
+/// job keeps spinning, even if jobs are released. The queue decides whether a poll spins.
 pub fn stays_again()
     ensures { (plan : PlanModel) → StaysAgain plan }
 {}

@@ -35,8 +35,7 @@ pub fn jobs_of_one_task()
     ensures never_started { verdict jobs_of_one_task.plan jobs_of_one_task.never_started ≡ fault 10 A3 }
 {}
 
-/// Of two jobs released at once the one with the earlier deadline starts, in either order of
-/// declaration.
+/// Of two jobs released at once the earlier deadline starts, in either order of declaration.
 pub fn two_heads()
     ensures run { IsRun two_heads.plan two_heads.rows }
     ensures by_declaration { verdict two_heads.plan two_heads.by_declaration ≡ fault 1 A3 }
@@ -58,8 +57,7 @@ pub fn two_resources()
     ensures queued_for_another { verdict two_resources.plan two_resources.queued_for_another ≡ fault 2 A5 }
 {}
 
-/// A reply to a question that the job can't ask violates the rule of actions, whatever the queue
-/// replies.
+/// A reply that the job can't ask for violates the rule of actions, whatever the queue replies.
 pub fn wrong_actions()
     ensures taken_while_queued { verdict handover_within_a_tick.plan wrong_actions.taken_while_queued ≡ fault 4 A4 }
     ensures spun_unasked { verdict handover_within_a_tick.plan wrong_actions.spun_unasked ≡ fault 1 A4 }
@@ -71,8 +69,7 @@ pub fn five_in_a_queue()
     ensures last_first { verdict five_in_a_queue.plan five_in_a_queue.last_first ≡ fault 10 A5 }
 {}
 
-/// The bound on spinning counts the longest section of each other core that uses the resource, and
-/// no other cores.
+/// The bound on spinning counts the longest section of each other core that uses the resource only.
 pub fn uneven_sections()
     ensures of_core_1 { spin_bound uneven_sections.plan 0 1 ≡ 4 }
     ensures of_core_0 { spin_bound uneven_sections.plan 0 0 ≡ 3 }

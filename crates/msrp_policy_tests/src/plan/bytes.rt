@@ -57,8 +57,7 @@ fn read_all<R: Read>(source: &mut Source<R>, buf: &mut [u8], tries: u32) -> Opti
     None
 }
 
-// A writer with a limit of each call. In one call it takes nothing, and fails or not; then it goes
-// on.
+// A writer with a limit of each call. In one call it takes nothing, and fails or not.
 #[derive(Drop)]
 struct Faltering {
     got: Vec<u8>,

@@ -26,8 +26,7 @@ pub record IsSinceRelease (plan : PlanModel) (rows : List Row) (j : JobId) (o : 
   pub late : AllByRecursion (ComesAfter plan j) since
   pub first : first_later plan before j ≡ o
 
--- n rows have blocked the job, and no later one will: it is started, or nobody blocks it, or it
--- isn't released
+-- n rows have blocked the job, and no later one will: it is started, unblocked or unreleased
 pub record IsOver (plan : PlanModel) (rows : List Row) (released : Bool) (j : JobId) (n : ℕ) : Type 0 where
   pub count : blocked plan rows j ≡ n
   pub ahead : released ≡ false → (n ≡ 0) × (is_started rows j ≡ false)

@@ -19,8 +19,7 @@ fn is_first(plan: &Plan, job: JobId, other: Option<JobId>) -> bool
     }
 }
 
-// The first of two later jobs: the first so far, if any, and another, if that is later than the
-// job.
+// The first of two later jobs: the first so far, if any, and another, if it is later than the job.
 fn first_with(plan: &Plan, job: JobId, other: JobId, first: Option<JobId>) -> Option<JobId>
     requires job { IsKnown plan.now job }
     requires other { IsKnown plan.now other }

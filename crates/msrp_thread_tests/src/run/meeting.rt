@@ -60,8 +60,7 @@ fn all_cores_meet(rt: HostRuntime) -> Result<(), Fail> {
     Ok(())
 }
 
-// The leader's turn of tick 0 is before the follower's, so it takes the resource, and the follower
-// queues.
+// The leader's turn of tick 0 is first, so it takes the resource, and the follower queues.
 fn expect_first<R: Threads + Wait + Sync + Abort>(
     rt: &R,
     alloc: Global,

@@ -107,8 +107,7 @@ fn a_refused_thread_is_told(rt: HostRuntime) {
     }
 }
 
-// The number of turns fits the answer: all with a trace, none after a refused thread, all or none
-// if memory ran out.
+// The turns fit the answer: all with a trace, none after a refused thread, else all or none.
 #[test]
 fn turns_are_all_or_none(rt: HostRuntime) -> Result<(), Fail> {
     let plan = two_sections(rt.alloc())?;

@@ -215,8 +215,7 @@ fn expect_places(rt: &impl Abort, log: &CoreLog, due: &[Option<(u32, bool)>]) {
     }
 }
 
-// The core's one job, unless it idles; the row's resource, if any; and the number ahead of a
-// request.
+// The core's one job, unless it idles; the row's resource, if any; and the number ahead.
 fn parts_of(core: u32, kind: Kind) -> (Option<JobId>, Option<ResId>, Option<u32>) {
     let task = TaskId(core);
     let job = Some(JobId { task, k: 0 });
