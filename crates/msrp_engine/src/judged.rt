@@ -144,7 +144,7 @@ impl<'p, 't, T: Read> JudgedRows<'p, 't, T> {
         }
     }
 
-    // The core's next row, which is chosen anew. It is kept, and its text is made.
+    // Chooses the core's next row, stores it, and makes its text.
     #[inline(never)]
     fn choose(&mut self, core: CoreId)
         requires accepted { IsPlan self.old.auditor.plan }

@@ -30,7 +30,7 @@ is_step _ = false
 abbrev pub has_place : Turn → Bool
 has_place x = is_some x.place
 
--- the row has the tick, resource and answer of an entry of its core's book, and its ahead, if any
+-- the row has the tick, resource and answer of an entry of its core's book, and no other ahead
 pub record IsRowOf (e : Entry) (r : Row) : Type 0 where
   pub tick : r.tick ≡ e.tick
   pub resource : r.res ≡ Some e.res

@@ -16,7 +16,7 @@ use Rattle.msrp_plan.specs.declared.rows.Kind.TheVariants.{Lock, Take, Queue, Gr
 use Rattle.msrp_plan.specs.declared.rows.Row.{Row}
 
 -- ---- no local blocking
--- the row, if it locks a local resource, locks one that no other job holds, of whatever core
+-- the row, if it locks a local resource, locks one that no other job of any core holds
 abbrev pub LocksFree : PlanModel → List Row → Row → Type 0
 LocksFree plan pre r = (g : ResId) (j : JobId) → r.kind ≡ Lock → r.res ≡ Some g → r.job ≢ Some j → holds plan pre g.0 j ≡ false
 
@@ -39,7 +39,7 @@ is_acquiring Take = true
 is_acquiring Grant = true
 is_acquiring _ = false
 
--- a row in which a job comes to hold the resource, at once or after a wait
+-- a row in which a job acquires the resource, at once or after a wait
 abbrev pub is_acquisition : ℕ → Row → Bool
 is_acquisition g r = is_on g r.res && is_acquiring r.kind
 

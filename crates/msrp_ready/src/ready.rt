@@ -1,4 +1,4 @@
-//! The ready jobs of a core, behind two calls: release up to a tick, and take the head.
+//! The ready jobs of a core, with two calls: release up to a tick, and take the head.
 ghost use Rattle.std.specs.Prelude.{◌≡◌, ◌<◌, ◌≤◌, ◌+◌, ◌-◌, ◌*◌, ◌||◌};
 ghost use Rattle.msrp_plan.specs.Common.{[], ℕ, None, Some, true, false, IfOk, IfNone, IfSome, ForSome, is_job};
 ghost use Rattle.msrp_plan.specs.declared.ids.JobId.{JobId as Job};

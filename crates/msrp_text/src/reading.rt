@@ -27,7 +27,7 @@ pub enum TextError {
     /// A read of the source failed.
     #[error("a read failed")]
     Read,
-    /// Memory was refused.
+    /// Out of memory.
     #[error("memory was refused")]
     Memory,
 }
@@ -40,7 +40,7 @@ const MOST_RECORDS: u32 = 4_294_967_294;
 enum Unread {
     // A record is refused, a read failed, or memory ran out.
     Told(TextError),
-    // More records than can be numbered. A source gives far fewer bytes than so many take.
+    // More records than can be numbered. A source has far fewer bytes than these would take.
     TooMany,
 }
 

@@ -84,6 +84,6 @@ changed rows n r = set rows (n - 1) r
 abbrev pub without_last : List Row → List Row
 without_last rows = list.take (length rows - 1) rows
 
--- the verdict: row n, counted from 1, breaks the rule
+-- the verdict: row n, counted from 1, violates the rule
 abbrev pub fault : ℕ → Rule → Option Fault
 fault n rule = Some (record { row = n; rule = rule })
