@@ -43,8 +43,8 @@ pub record Awaits (a : AuditorModel) (rows : List Row) (c : ℕ) (due : Row) : T
   pub tick : due.tick ≡ length rows / a.plan.cores
   pub stand : (row : Row) → IsAs due row → IsLegal a.plan rows row → StandFor a.cores (rows ++ row ∷ [])
 
--- the row violates that rule after these rows, which have no fault; in its turn, this was its
--- core's expected row; otherwise the auditor is before it
+-- the row breaks that rule after these rows, which have no fault; where it is in its turn, this row was due of its core, and else the auditor
+-- stands before it
 pub record IsBroken (plan : PlanModel) (rows : List Row) (row : Row) (f : Fault) (due : Option Row) (a : AuditorModel) : Type 0 where
   pub fault : fault_in plan (rows ++ row ∷ []) ≡ Some f
   pub turn : length rows < plan.cores * plan.ticks → is_in_turn plan rows row ≡ true → IsSomeAnd due (IsNextRow plan rows row.core.0)

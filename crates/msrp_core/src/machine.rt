@@ -73,7 +73,7 @@ impl<'a> Machine<'a> {
         })
     }
 
-    /// The tick of the next turn: the number of turns so far.
+    /// The tick of the next turn, which is how many turns the core has had.
     pub fn tick(&self) -> u32
         ensures { result ≡ self.now.tick }
     {

@@ -1,8 +1,7 @@
 //! The rows of a trace's text, each judged as it is read.
 //!
-//! The text says which core's row is next. That core's machine gives its one legal row, whose text
-//! is compared with the text that is next. So no legal row is read field by field, and while a
-//! core's rows differ only in the tick, its text is made once.
+//! The text says which core's row is next. That core runs, which gives its one legal row, and the text of that row is compared with the text that is
+//! next. So a legal row is never read field by field. As long as a core's rows differ in their ticks alone, its text is made once.
 ghost use Rattle.std.specs.Prelude.{◌≡◌, ◌<◌, ◌*◌, ◌/◌, ◌%◌};
 ghost use Rattle.msrp_plan.specs.Common.{ℕ, List, IfSome, Some, None, Ok, Err, true, false, source_failed, IsPlan, is_in_turn, IsSomeAnd, length, in_tick};
 ghost use Rattle.msrp_audit.specs.Audits.{Awaits, HasFed, IsDueInAudit};
@@ -57,7 +56,7 @@ impl Judgement {
 pub struct JudgedRows<'p, 't, T> {
     auditor: Auditor<'p>,
     rows: TraceReader<'t, T>,
-    // Each core's last chosen row, and its text without the tick.
+    // Of each core its last row that was chosen, and the text of that, but for the tick.
     lasts: [Option<Row>; MOST_CORES as usize],
     texts: RowTexts<'p>,
     // What decided before the last row who had its core's turn, if that was asked.
@@ -125,7 +124,7 @@ impl<'p, 't, T: Read> JudgedRows<'p, 't, T> {
         &self.rows
     }
 
-    /// What decided before the last row, if [`JudgedRows::next_with_state`] read it.
+    /// What decided before the last row who had its core's turn, as [`JudgedRows::next_with_state`] found it.
     pub fn state(&self) -> Option<CoreState>
         ensures { result ≡ self.now.state }
     {
@@ -144,7 +143,7 @@ impl<'p, 't, T: Read> JudgedRows<'p, 't, T> {
         }
     }
 
-    // Chooses the core's next row, stores it, and makes its text.
+    // The core's next row, which is chosen anew. It is kept, and its text is made.
     #[inline(never)]
     fn choose(&mut self, core: CoreId)
         requires accepted { IsPlan self.old.auditor.plan }
@@ -161,7 +160,7 @@ impl<'p, 't, T: Read> JudgedRows<'p, 't, T> {
         self.texts.show(&self.rows.as_read(expected));
     }
 
-    // The core's next row: its last one in the next tick, if that is known, or a chosen one.
+    // The core's next row: its last one in the next tick, where that is known, or one that is chosen.
     #[inline(always)]
     fn expect(&mut self, core: CoreId)
         requires accepted { IsPlan self.old.auditor.plan }
@@ -219,7 +218,8 @@ impl<'p, 't, T: Read> JudgedRows<'p, 't, T> {
         }
     }
 
-    // The next row, read field by field; its text begins with that tick and that expected core.
+    // The next row, read field by field. Its text begins with that tick and that core, of which a
+    // row is expected.
     #[inline(never)]
     fn read_expected(&mut self, tick: u32, core: CoreId) -> Result<Judgement, TraceError>
         requires core { core.0 < self.old.auditor.plan.cores }
@@ -283,7 +283,7 @@ impl<'p, 't, T: Read> JudgedRows<'p, 't, T> {
         self.next_by(false)
     }
 
-    /// As [`JudgedRows::next_row`]; [`JudgedRows::state`] then has what decided before that row.
+    /// The same, and [`JudgedRows::state`] then tells what decided before that row who had its core's turn.
     #[inline(never)]
     pub fn next_with_state(&mut self) -> Result<Judgement, TraceError>
         ensures plan { self.new.auditor.plan ≡ self.old.auditor.plan }
@@ -307,7 +307,7 @@ impl<'p, 't, T: Read> JudgedRows<'p, 't, T> {
         ensures state { asked ≡ true → (rows : List TraceRow) → HasFed self.old.auditor rows → self.old.auditor.fault ≡ None → IfCame (λ row. IsStateAfter self.old.auditor.plan rows row.core.0 self.new.state) result }
     {
         let tick = self.auditor.tick();
-        // Rows that are read by fields have their own place, so no other row is built in memory.
+        // What is read by fields has a place of its own: so a row that is met is laid down nowhere.
         let judged;
         let Some(core) = self.rows.core_ahead(tick) else {
             judged = self.read(asked);

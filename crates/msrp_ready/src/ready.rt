@@ -61,7 +61,8 @@ impl<'a> Ready<'a> {
         })
     }
 
-    /// Releases the core's jobs up to a tick, which isn't before the last one. Allocates nothing.
+    /// Releases the jobs of the core whose release is at or before a tick, which is no earlier than the one before. It takes no
+    /// memory.
     pub fn release_to(&mut self, tick: u32)
         requires { ForSome self.old.tick (λ before. before ≤ tick) }
         ensures tick { self.new ≡ record self.old { tick = Some tick; compared = self.new.compared } }

@@ -111,7 +111,7 @@ pub record AreNew (plan : PlanModel) (n : ℕ) (machines : List MachineModel) : 
   pub size : length machines ≡ n
   pub each : (c : ℕ) (x : MachineModel) → slice_get machines c ≡ Some x → IsNew plan c x
 
--- one turn of a core: its machine moves on by a tick, and its call, if any, enters the queues
+-- one turn of a core: its machine goes one tick on, and its call, if it makes one, goes into the queues
 pub record TakesTurn (old new : CoresModel) (c : ℕ) (r : Row) : Type 0 where
   pub plan : new.plan ≡ old.plan
   pub before : MachineModel
