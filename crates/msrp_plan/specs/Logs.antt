@@ -31,7 +31,7 @@ core_order rows = map (λ r. r.core.0) rows
 abbrev pub ascending : ℕ → ℕ → List ℕ
 ascending cores ticks = flat_map (λ t. range_with_len 0 cores) (range_with_len 0 ticks)
 
--- the row is of the tick that its core has next: one turn in each tick so far
+-- the row is the next one of a core that has had one turn in each full tick so far
 pub record IsNextTurn (plan : PlanModel) (pre : List Row) (r : Row) : Type 0 where
   pub core : r.core.0 < plan.cores
   pub due : length (log_of r.core.0 pre) ≡ length pre / plan.cores

@@ -1,4 +1,4 @@
-//! Numbers of tasks, resources and cores, and the names of jobs.
+//! Numbers of tasks, resources and cores; jobs, and the key that orders the jobs of a core.
 ghost use Rattle.std.specs.Prelude.{◌≡◌};
 ghost use Rattle.std.specs.Ordering.{is_lt};
 ghost use Rattle.msrp_plan.specs.Choice.{key_cmp};

@@ -73,7 +73,7 @@ pub fn determinacy()
 {}
 
 /// A worked run with a local resource: a job started later finds it free. If the job were started
-/// below the ceiling, it would find the resource held, and both would hold it.
+/// in spite of the ceiling, it would find the resource held, and both would hold it.
 pub fn ceiling_keeps_a_lock_free()
     ensures laws { KeepsLaws blocked_by_the_ceiling.plan blocked_by_the_ceiling.rows }
     ensures held { holds blocked_by_the_ceiling.plan (take 4 blocked_by_the_ceiling.rows) 0 (job 0 0) ≡ true }

@@ -1,4 +1,4 @@
-//! The units of a task, as they are read.
+//! A task's units, lent so that several reads need one lookup of the task.
 ghost use Rattle.std.specs.Prelude.{◌≡◌, ◌≢◌, ◌<◌, ◌≤◌, ◌+◌, [], ℕ, Some, length, slice_get, true, false};
 ghost use Rattle.msrp_plan.specs.declared.units.Op.TheVariants.{Run};
 

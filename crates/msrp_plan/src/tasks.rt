@@ -1,4 +1,4 @@
-//! Tasks as a plan and its builder store them.
+//! Stored tasks: a map by name in the order of declaration, so that an index is a task's number.
 ghost use Rattle.std.specs.Prelude.{◌≡◌, ◌<◌, ◌+◌, ◌++◌, ◌∷◌, [], ◌^◌, ℕ, false, List, length, map, replicate, vec_len, OnOk, OnErr};
 ghost use Rattle.msrp_plan.specs.Building.{with_more_ticks, with_more_units, with_newest};
 ghost use Rattle.msrp_plan.specs.Names.{has_name};

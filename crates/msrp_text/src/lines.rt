@@ -1,4 +1,4 @@
-//! A text read ahead in blocks, so that plain lines can be taken where they are, without a copy.
+//! A text read ahead in blocks, whose plain lines are found there, and its empty lines counted.
 ghost use Rattle.std.specs.Prelude.{◌^◌, ◌≡◌, ◌≤◌, ◌<◌, ◌+◌, ◌++◌, ◌⊎◌, ◌==◌, ◌&&◌};
 ghost use Rattle.msrp_plan.specs.Common.{IsSome, not, ℕ, List, [], Some, None, IfOk, true, false, length, map, take, list_all};
 ghost use Rattle.msrp_text.specs.declared.front.TheConstants.{LONGEST};
