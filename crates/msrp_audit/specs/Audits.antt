@@ -21,8 +21,8 @@ pub record HasFed (a : AuditorModel) (rows : List Row) : Type 0 where
   pub stand : a.fault ≡ None → StandFor a.cores rows
   pub count : a.fault ≡ None → a.fed ≡ length rows
 
--- the core may have its turn now: no row so far has a fault, rows are left, and its turn in the
--- next row's tick is still to come
+-- the core may have its turn now: there is no fault, rows are left, and its turn in the tick isn't
+-- over
 pub record IsDueInAudit (a : AuditorModel) (c : ℕ) : Type 0 where
   pub fault : a.fault ≡ None
   pub core : c < a.plan.cores

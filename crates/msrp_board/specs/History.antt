@@ -68,8 +68,7 @@ pub record IsHistory (g : ℕ) (books : ℕ → List Entry) (h : List Event) : T
   pub placed : Placed 0 h
   pub polls : IsChain PollsInOrder h
 
--- the history fits the ticket word's counts, has a first-in-first-out lock's answers, and ticks
--- never fall
+-- the history fits the word's counts, has a first-in-first-out lock's answers, and ticks never fall
 pub record IsServed (word g : ℕ) (books : ℕ → List Entry) (h : List Event) : Type 0 where
   pub history : IsHistory g books h
   pub requests : count_by (λ s. is_request s.1.call) h ≡ high word

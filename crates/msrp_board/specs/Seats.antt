@@ -27,8 +27,7 @@ pub record SeatModel : Type 0 where
 abbrev pub book_at : SeatModel → ℕ → Option Book
 book_at seat c = slice_index_or seat.books c None
 
--- what holds of every seat: its books are of the board's cores, and each obeys the rule's part on a
--- book
+-- what holds of every seat: its books are of the board's cores, and each obeys its part of the rule
 pub record IsSeat (seat : SeatModel) : Type 0 where
   pub limits : IsSize seat.board.size
   pub cores : (c : ℕ) (b : Book) → book_at seat c ≡ Some b → c < seat.board.size.cores

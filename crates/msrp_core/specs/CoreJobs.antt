@@ -29,8 +29,7 @@ abbrev pub rising_of : PlanModel → Option JobId → Option JobId → Option Jo
 rising_of plan None running = None
 rising_of plan (Some h) running = if comes_first plan h running then Some h else None
 
--- the stored facts on the head and the running job are right: who rises, and the running job's
--- units
+-- the stored facts on head and running job are right: who rises, and the running job's units
 pub record IsCurrent (jobs : Jobs) : Type 0 where
   pub rising : jobs.rising ≡ rising_of jobs.plan.now (head jobs.ready) (newest_started jobs.stack.started)
   pub units : ForSome (newest_started jobs.stack.started) (λ j. jobs.units ≡ units jobs.plan.now j)
@@ -65,7 +64,7 @@ AreToldBy jobs log = AllByRecursion (λ j. state_after log j ≡ state_of jobs j
 abbrev pub started_with : Option JobId → JobState → JobState
 started_with o s = record s { started = s.started || is_job o s.job }
 
--- the same core of the same plan, which holds or awaits the same, with as much room
+-- the plan, its levels, the core and its phase are unchanged
 pub record IsSamePlace (old new : Jobs) : Type 0 where
   pub plan : new.plan ≡ old.plan
   pub levels : new.levels ≡ old.levels

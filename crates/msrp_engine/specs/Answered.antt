@@ -18,8 +18,7 @@ OrUnread answer Holds = (answer ≡ Err Read) ⊎ (answer ≡ Err Memory) ⊎ Ho
 abbrev pub OfText : {R A : Type 0} → (R → Option (List ℕ)) → Source R → Result A CliFault → (List (List (List ℕ)) → Type 0) → Type 0
 OfText remaining text answer Holds = (bytes : List ℕ) → source_remaining remaining text ≡ Some bytes → OrUnread answer (Holds (csv_records bytes))
 
--- the same for a plan and a trace of it: this holds of what the plan's bytes give, a plan or a
--- refusal, and of the trace's records
+-- with known bytes of both, this holds of the plan or refusal in them, and of the trace's records
 abbrev pub OfTexts : {P T A : Type 0} → (P → Option (List ℕ)) → (T → Option (List ℕ)) → Source P → Source T → Result A CliFault → (Result PlanModel TextError → List (List (List ℕ)) → Type 0) → Type 0
 OfTexts plan_remaining trace_remaining plan trace answer Holds =
     (plan_bytes trace_bytes : List ℕ) → source_remaining plan_remaining plan ≡ Some plan_bytes → source_remaining trace_remaining trace ≡ Some trace_bytes

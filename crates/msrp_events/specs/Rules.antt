@@ -67,8 +67,7 @@ first_waiting system jobs g = option_map (λ x. x.job) (find (awaits system g) j
 abbrev pub is_first : PlanModel → List LiveJob → ℕ → JobId → Bool
 is_first system jobs g j = is_job (first_waiting system jobs g) j
 
--- E10: what is locked or acquired is free; the first requester acquires; a poll fails only if it
--- must
+-- E10: what is locked or acquired is free; the first requester acquires; a failing poll must fail
 abbrev pub has_outcome : PlanModel → List LiveJob → LockAction → ℕ → JobId → Bool
 has_outcome system jobs Lock g j = not (is_held system jobs g)
 has_outcome system jobs Acquire g j = not (is_held system jobs g) && is_first system jobs g j

@@ -38,8 +38,7 @@ is_by None r = false
 is_by (Some k) r = is_row_of k r
 
 -- ---- sections
--- the job is in an outermost section, after its first row: it holds a resource, or is queued for
--- one
+-- the job is in an outermost section, after its first row: it holds or is queued for a resource
 abbrev pub is_amid : PlanModel → List Row → JobId → Bool
 is_amid plan pre k = is_queued pre k || in_section plan (units plan k) (done k pre)
 

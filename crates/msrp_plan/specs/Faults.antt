@@ -7,8 +7,7 @@ use Rattle.msrp_plan.specs.declared.faults.Fault.{Fault}
 use Rattle.msrp_plan.specs.declared.faults.Rule.TheVariants.{A6, A7}
 use Rattle.msrp_plan.specs.declared.rows.Row.{Row}
 
--- the rows before it are the start of a legal run, not a whole one, and this is its lowest violated
--- rule
+-- the rows before it are a legal start, not a whole run, and this is its lowest violated rule
 pub record IsBroken (plan : PlanModel) (rows : List Row) (f : Fault) : Type 0 where
   pub before : List Row
   pub broke : Row

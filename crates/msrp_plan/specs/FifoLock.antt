@@ -4,8 +4,7 @@ use Rattle.std.specs.Prelude.{ℕ, zero, suc, List, [], ◌∷◌, ◌++◌, len
 use Rattle.msrp_plan.specs.declared.units.Call.{Call}
 use Rattle.msrp_plan.specs.declared.units.Call.TheVariants.{Ask, Poll, Leave}
 
--- the cores that requested and haven't released the lock, in order, and whether the first is
--- granted
+-- the cores that requested and haven't released it, in order, and whether the first is granted
 pub record FifoLock : Type 0 where
   pub queue : List ℕ
   pub granted : Bool

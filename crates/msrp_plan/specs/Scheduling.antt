@@ -53,8 +53,7 @@ pub record IsActive (plan : PlanModel) (pre : List Row) (r : Row) (j : JobId) : 
   pub started : is_started pre j ≡ true
   pub unfinished : is_finished plan pre j ≡ false
 
--- job x may start: it comes before every other ready job and every active job, and its level is
--- above the core's ceiling
+-- job x may start: it comes before all other ready and active jobs, and is above the core's ceiling
 pub record MayStart (plan : PlanModel) (pre : List Row) (r : Row) (x : JobId) : Type 0 where
   pub first : (j : JobId) → IsReady plan pre r j → j ≢ x → is_before plan x j ≡ true
   pub preempts : (j : JobId) → IsActive plan pre r j → is_before plan x j ≡ true

@@ -21,8 +21,7 @@ calls_by core calls = map (λ s. record { core = core; res = s.0; call = s.1 }) 
 abbrev pub port_of : CoreId → SeatModel → PortModel
 port_of core seat = record { calls = calls_by core (port_calls seat core.0); rooms = port_room seat; resources = seat.board.size.resources }
 
--- what was done through a seat since it was `first`: nothing, or one step at this place, the only
--- one
+-- what was done through a seat since it was `first`: nothing, or one step, at this place
 abbrev pub IsStepSince : ℕ → SeatModel → Option Place → SeatModel → Type 0
 IsStepSince c first None seat = seat ≡ first
 IsStepSince c first (Some p) seat = (res : ResId) × (call : Call) × (p.polled ≡ is_poll call) × (seat ≡ with_entry res p.number call first) × (port_room seat c ≡ 0) × IsDueCall (claim_after (port_calls first c)) res call

@@ -58,8 +58,7 @@ pub record IsNextRow (plan : PlanModel) (rows : List Row) (c : ℕ) (r : Row) : 
   pub legal : IsLegal plan rows r
   pub carries : carries_its_ahead r ≡ true
 
--- after some log the row is the next one of core c, in a tick of the plan; it carries its ahead,
--- below the rows of a run
+-- after some log the row is core c's next one, in a tick of the plan, and carries a possible ahead
 pub record IsSomeTurn (plan : PlanModel) (c : ℕ) (r : Row) : Type 0 where
   pub log : List Row
   pub turn : IsCoreTurn plan c log r

@@ -5,8 +5,7 @@ use Rattle.msrp_plan.specs.declared.ids.JobId.{JobId}
 use Rattle.msrp_plan.specs.Choice.{first_unfinished}
 use Rattle.msrp_plan.specs.Ceiling.{ceiling_with}
 
--- a started, unfinished job, and its resources, the innermost first, a global one from its request
--- on
+-- a started, unfinished job, and its resources, the innermost first, global ones once requested
 pub record StartedJob : Type 0 where
   pub job : JobId
   pub held : List ℕ

@@ -62,7 +62,7 @@ pub record HasTaken {R : Type 0} (remaining : R → Option (List ℕ)) (text : L
   pub counted : (empty : ℕ) → lines.passed ≡ Some empty → lines_ended before ≡ number + empty
   pub counts : length text < 2 ^ 32 → IsSome lines.passed
 
--- the same for both ways of reading; nothing is said once `csv` reads
+-- for both ways of reading; nothing is said once `csv` reads
 abbrev pub HasTakenBy : {R : Type 0} → (R → Option (List ℕ)) → List ℕ → ℕ → Way R → Type 0
 HasTakenBy remaining text number (way.Lines lines) = HasTaken remaining text number lines
 HasTakenBy remaining text number (way.Csv records) = ⊤

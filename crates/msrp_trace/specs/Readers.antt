@@ -88,7 +88,7 @@ GivesFirst (r ∷ rows) refusal result after = (result ≡ Ok (Some r)) × (afte
 GivesFirst [] None result after = (result ≡ Ok None) × (after ≡ Some nothing_left)
 GivesFirst [] (Some refusal) result after = result ≡ Err refusal
 
--- the same, except what is left after the end
+-- the next row, none at the end, or the refusal; nothing is said of what is left after the end
 abbrev pub GivesFirstOr : List Row → Option TraceError → Result (Option Row) TraceError → Option Told → Type 0
 GivesFirstOr (r ∷ rows) refusal result after = GivesFirst (r ∷ rows) refusal result after
 GivesFirstOr [] None result after = result ≡ Ok None

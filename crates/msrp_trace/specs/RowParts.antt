@@ -25,7 +25,7 @@ abbrev pub Reads : Option TraceFault → Option Row → Result Row TraceFault �
 Reads (Some fault) told result = result ≡ Err fault
 Reads None told result = IsOkAnd result (λ r. told ≡ Some r)
 
--- the same, and the refusal has the record's number
+-- a refused record has its number, any other gives its row
 abbrev pub ReadsAt : ℕ → Option TraceFault → Option Row → Result Row TraceError → Type 0
 ReadsAt number (Some fault) told result = result ≡ Err (At fault number)
 ReadsAt number None told result = IsOkAnd result (λ r. told ≡ Some r)

@@ -63,8 +63,7 @@ abbrev pub told_at : ℕ → Option Fault → Option Rule
 told_at n None = None
 told_at n (Some f) = if f.row == n then Some f.rule else None
 
--- after the start of a legal run, the answer names the rule that the test finds violated by the
--- next row, or none if it finds none
+-- after the start of a legal run, the answer is the rule that the test finds violated next, if any
 pub record TellsFirst (plan : PlanModel) (test : List Row → Row → Option Rule) (rows : List Row) (answer : Option Fault) : Type 0 where
   pub told : (pre : List Row) (r : Row) (post : List Row) → rows ≡ pre ++ r ∷ post → IsRunStart plan pre → told_at (length pre + 1) answer ≡ test pre r
   pub row : IfSome answer (λ f. (1 ≤ f.row) × (f.row ≤ length rows))

@@ -112,8 +112,7 @@ pub record IsHeld (z : BoardSize) (held : States) (conductor : Option Conductor)
   pub cores : (c : ℕ) (b : Page) → HasPage me.0 c b → c < z.cores
   pub kept : (c : ℕ) (b : Page) → HasPage me.0 c b → IsKeptNewest z b
 
--- what holds of each board: its table obeys the rule, and has each resource's word and the
--- barrier's
+-- what holds of each board: its table obeys the rule, with each resource's word and the barrier's
 pub record IsBoard (z key : BoardSize) (table : TableId) : Type 0 where
   pub keyed : key ≡ z
   pub words : table.words ≡ z.resources + 1

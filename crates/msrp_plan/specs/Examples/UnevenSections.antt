@@ -1,5 +1,4 @@
--- Three cores; core 2 doesn't use g, so it adds nothing to the bound; core 0 adds its longest
--- section.
+-- Three cores; core 2 doesn't use g and adds nothing to the bound; core 0 adds its longest section.
 use Rattle.std.specs.Prelude.{[], ◌∷◌, ◌++◌, codes}
 use Rattle.msrp_plan.specs.Plan.{PlanModel}
 use Rattle.msrp_plan.specs.Examples.Notation.{task, works, section}

@@ -29,8 +29,7 @@ draft_view b = parts_view b.parts
 abbrev pub numbers : List ResId → List ℕ
 numbers rs = map (λ r. r.0) rs
 
--- a draft, all of whose tasks but the newest are whole, and what the newest holds, the innermost
--- first
+-- a draft, whose tasks but the newest are whole, and what the newest holds, the innermost first
 pub record IsGrowing (plan : PlanModel) (held : List ℕ) : Type 0 where
   pub draft : IsDraft plan
   pub whole : (t : ℕ) → t + 1 < length plan.tasks → IsWhole (task_at plan t)

@@ -66,7 +66,7 @@ fn a_refused_thread_stops_the_run(rt: HostRuntime) -> Result<(), Fail> {
     Ok(())
 }
 
-// The same for the longest run, whose last thread is refused.
+// Also in the longest run, whose last thread is refused.
 #[test]
 fn a_refused_thread_stops_a_long_run(rt: HostRuntime) -> Result<(), Fail> {
     let plan = hot(rt.alloc(), 8, 20000)?;
