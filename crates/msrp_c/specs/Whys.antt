@@ -1,4 +1,4 @@
--- The explanations of a trace's verdict, and of a plan.
+-- Words on a trace, and on a plan.
 use Rattle.std.specs.Prelude.{◌≡◌}
 use Rattle.msrp_plan.specs.Common.{ℕ, Bool, List, [], Ok, Err, IsOkAnd, ⊤, Result}
 use Rattle.msrp_plan.specs.declared.faults.Fault.{Fault}
@@ -10,21 +10,21 @@ use Rattle.msrp_engine.specs.Answered.{OrUnread}
 use Rattle.msrp_c.specs.Answers.{Gives, HandsOver}
 use Rattle.msrp_c.specs.declared.answers.MsrpFound.{MsrpFound}
 
--- the refusal of a plan that sentences were made on, or the fault in place of both
+-- what is found in a plan that words were made on, or the fault in place of both
 abbrev pub refusal_in : Result Words CliFault → Result (Result ⊤ Fault) CliFault
 refusal_in (Ok words) = words.found
 refusal_in (Err fault) = Err fault
 
--- the sentences; with a fault there are none
+-- the words; where a fault is told there are none
 abbrev pub words_in : Result Words CliFault → List ℕ
 words_in (Ok words) = words.text.items
 words_in (Err fault) = []
 
--- these are the sentences on a plan's text, with its refusal
+-- these are words on a plan's text, with its refusal
 abbrev pub AreWords : List ℕ → Result Words CliFault → Type 0
 AreWords text words = OrUnread words (IsOkAnd words (λ made. made.found ≡ plan_found (plan_of (csv_records text))))
 
--- sentences are handed over with the plan's refusal, which isn't a fault of the call
+-- words are handed over with the plan's refusal, which is no fault of the call: a refused plan has words too
 abbrev pub HandsWords : Result Words CliFault → List ℕ → List ℕ → ℕ → MsrpFound → ℕ → Type 0
 HandsWords words old new needed found status = HandsOver (refusal_in words) (words_in words) old new needed found status
 

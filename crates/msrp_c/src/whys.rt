@@ -1,4 +1,4 @@
-//! The explanation of a verdict, and of a plan's refusal, in sentences.
+//! Words on a trace, and on a plan.
 ghost use Rattle.std.specs.Prelude.{◌||◌};
 ghost use Rattle.msrp_plan.specs.Common.{IfOk, Err};
 ghost use Rattle.msrp_text.specs.Reading.{csv_records, plan_of};
@@ -14,7 +14,7 @@ use msrp_plan::bytes::Source;
 use msrp_view_engine::{Words, why_of_plan, why_of_texts};
 use std::alloc::Global;
 
-// The explanation of a trace's verdict.
+// The words on a trace.
 fn explained(alloc: Global, plan: &[u8], trace: &[u8]) -> Result<Made, CliFault>
     ensures { OrUnread result (IsWhyOf (plan_of (csv_records plan.now)) (csv_records trace.now) result) }
 {
@@ -23,7 +23,7 @@ fn explained(alloc: Global, plan: &[u8], trace: &[u8]) -> Result<Made, CliFault>
     why_of_texts(alloc, &mut plan, &mut trace)
 }
 
-/// The verdict on a trace and the reasons in sentences; for a legal trace what its run exercised.
+/// The verdict on a trace, and in plain sentences what makes it so; of a legal trace what its run exercised. A refused text has no words.
 #[unsafe(no_mangle)]
 pub extern "C" fn msrp_why(
     alloc: Global,
@@ -42,7 +42,7 @@ pub extern "C" fn msrp_why(
     hand_over(unfailed(made), text, needed, found)
 }
 
-// The sentences on a plan.
+// The words on a plan.
 fn advised(alloc: Global, plan: &[u8]) -> Result<Words, CliFault>
     ensures words { AreWords plan.now result }
     ensures plan { IfOk result (λ words. IsOnPlan words.found) }
@@ -51,7 +51,7 @@ fn advised(alloc: Global, plan: &[u8]) -> Result<Words, CliFault>
     why_of_plan(alloc, "plan", &mut plan)
 }
 
-// Hands sentences over, or reports why there are none.
+// Hands words over, or tells why there are none.
 fn hand_words(
     words: Result<Words, CliFault>,
     text: &mut [u8],
@@ -66,7 +66,7 @@ fn hand_words(
     }
 }
 
-/// The sentences on a plan: why it is refused, or what is odd in it. A refused plan has some too.
+/// The words on a plan: why it is refused, or what is odd in it. A refused plan has words too.
 #[unsafe(no_mangle)]
 pub extern "C" fn msrp_why_plan(
     alloc: Global,
