@@ -1,8 +1,8 @@
-//! `msrp`: runs a plan of tasks on several cores, on one thread or on one for each core; judges a trace of it, and reports what happened
-//! in one; and checks a plan, of which it writes the levels and ceilings, or the plan's own text.
+//! `msrp`: runs a plan of tasks on several cores, on one thread or on one for each core; judges a
+//! trace and reports on it; prints a plan's levels and ceilings, or its own text.
 //!
-//! `msrp_words` reads the command line, and `main` opens what the words name, prints the line of a fault and gives the exit status. The
-//! engines, which turn bytes into bytes, are `msrp_engine`'s.
+//! `msrp_words` reads the command line. `main` opens the paths, prints the line of a fault and
+//! returns the exit status. The engines, from bytes to bytes, are `msrp_engine`'s.
 #![tactic(auto)]
 
 use msrp_cli::{Input, STANDARD, open, open_both, words_of};
@@ -23,8 +23,8 @@ use std::process::ExitCode;
 use std::sync::Wait;
 use std::thread::Threads;
 
-// What a command keeps on the stack is as large as what it reads and writes at once. Each command has a frame of its own, so that none
-// touches the pages of the others.
+// A command's stack frame is as large as its buffers. Each command has its own function, so that
+// none touches the pages of another's.
 
 // The sources of a plan and a trace.
 fn sources(
@@ -115,7 +115,7 @@ fn report<W: Write>(
     report_text(rt.alloc(), &mut plan, &mut trace, out)
 }
 
-// Does what the words ask for, and answers the exit status. `threads` starts the threads of a run, and of an audit in pieces.
+// Does what the arguments ask for, and returns the exit status. `threads` starts all threads.
 fn run<T: Threads + Wait + Sync>(
     rt: &HostRuntime,
     threads: &T,
@@ -161,7 +161,7 @@ fn paths_of<'a>(cmd: &Cmd<'a>) -> Paths<'a> {
     Paths { plan, trace }
 }
 
-// What follows the line of a fault, or a verdict, for a person.
+// The hint for a person after the line of a fault, or a verdict.
 #[inline(never)]
 fn hint(
     rt: &HostRuntime,

@@ -8,31 +8,33 @@ use Rattle.msrp_core.specs.Machine.{MachineModel}
 use Rattle.msrp_sim.specs.Cores.{CoresModel, StandFor, IsNextRow, IsAs}
 use Rattle.msrp_audit.specs.declared.auditor.Auditor.TheInside.{Inside}
 
--- the cores as the rows without a fault leave them, how many these are, and the fault behind them, if one came
+-- the cores after the rows without a fault, the number of these, and the fault after them, if any
 pub record AuditorModel : Type 0 where
   pub plan : PlanModel
   pub cores : CoresModel
   pub fed : ℕ
   pub fault : Option Fault
 
--- these rows were fed: the fault is theirs, and while they have none the cores stand for them
+-- these rows were fed: the fault is theirs, and without one the cores stand for them
 pub record HasFed (a : AuditorModel) (rows : List Row) : Type 0 where
   pub fault : a.fault ≡ fault_in a.plan rows
   pub stand : a.fault ≡ None → StandFor a.cores rows
   pub count : a.fault ≡ None → a.fed ≡ length rows
 
--- the core is due now: no row so far has a fault, rows are left, and its turn in the tick of the next row is still to come
+-- the core may have its turn now: there is no fault, rows are left, and its turn in the tick isn't
+-- over
 pub record IsDueInAudit (a : AuditorModel) (c : ℕ) : Type 0 where
   pub fault : a.fault ≡ None
   pub core : c < a.plan.cores
   pub left : a.fed < a.plan.cores * a.plan.ticks
   pub tick : option_map (λ (x : MachineModel). x.tick) (slice_get a.cores.machines c) ≡ Some (a.fed / a.plan.cores)
 
--- the row isn't in its turn after these, or all turns were had
+-- the row isn't in its turn after these, or no turn is left
 abbrev pub IsOutOfTurn : PlanModel → List Row → Row → Type 0
 IsOutOfTurn plan rows r = length rows < plan.cores * plan.ticks → is_in_turn plan rows r ≡ false
 
--- these rows were fed and have no fault, and the core had its turn, which made the one legal row: once that row comes the cores stand for it too
+-- these rows were fed and have no fault, and the core had its turn, which made the one legal row:
+-- once that row is fed, the cores stand for it too
 pub record Awaits (a : AuditorModel) (rows : List Row) (c : ℕ) (due : Row) : Type 0 where
   pub fault : a.fault ≡ None
   pub good : fault_in a.plan rows ≡ None
@@ -53,12 +55,12 @@ abbrev pub answer_of : Option Fault → Result ⊤ Fault
 answer_of None = Ok tt
 answer_of (Some fault) = Err fault
 
--- the core has its turn still to come in the tick that is due after these rows
+-- the core's turn in the expected tick is still to come after these rows
 abbrev pub has_turn : PlanModel → List Row → ℕ → Bool
 has_turn plan rows c = nat_lt c plan.cores && not (had_turn c (length rows / plan.cores) rows)
 
 -- ---- the fields
--- how many rows of the tick came
+-- the number of rows of the tick so far
 abbrev pub place_in : Inside → ℕ
 place_in a = a.plan.now.cores - a.left
 

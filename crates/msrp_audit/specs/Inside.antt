@@ -1,4 +1,4 @@
--- Words of the audit in pieces. No public contract speaks of them.
+-- Definitions for the audit in pieces. No public contract uses them.
 pub mod Pieces
 pub mod Replies
 pub mod SmallRows

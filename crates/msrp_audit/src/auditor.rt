@@ -1,4 +1,4 @@
-//! The auditor, row by row.
+//! The auditor, row by row: it knows the one row that each core may make next.
 ghost use Rattle.std.specs.Prelude.{◌≡◌, ◌≤◌, ◌<◌, ◌+◌, ◌*◌, ◌/◌, ◌++◌, ◌∷◌, ◌↔◌};
 ghost use Rattle.msrp_plan.specs.Common.{[], ℕ, List, IfOk, IfNone, IfSome, Some, None, Err, length, true, most_rows, is_of_core, is_in_turn, fault_in, verdict, IsPlan};
 ghost use Rattle.std.specs.Option.{is_some};
@@ -18,16 +18,17 @@ use msrp_sim::Cores;
 use std::alloc::Global;
 use std::marker::Model;
 
-/// Judges the rows of a trace as they come, whoever made them.
+/// Judges the rows of a trace one by one, from any source.
 ///
-/// Each core of the plan is followed by a machine, over first-in-first-out queues: it tells the one row that the core
-/// may make next, and the row that comes is compared with it (Baker 1991; Gai, Lipari and Di Natale 2001).
+/// A machine over first-in-first-out queues follows each core of the plan: its next row is the one
+/// that the core may make, and the core's row in the trace is compared with it (Baker 1991; Gai,
+/// Lipari and Di Natale 2001).
 #[derive(Drop)]
 pub struct Auditor<'a> {
     plan: &'a Plan,
     cores: Cores<'a>,
-    // In which tick the row after those stands that came before the first fault, and how many rows of that tick are still to come, with it: so most rows
-    // only count down.
+    // The tick of the next row while there is no fault, and the number of rows left in that tick:
+    // so most rows only count down.
     tick: u32,
     left: u32,
     fault: Option<Fault>,
@@ -61,14 +62,14 @@ pub(crate) fn is_own(plan: &Plan, row: Row) -> bool
     job.k < plan.jobs(job.task)
 }
 
-// The lowest of the rules on job, action and reply that a row in its turn breaks, against the one that was due.
+// The lowest of the rules on job, action and reply that a row violates, given the expected row.
 #[inline(always)]
 fn broken_by(plan: &Plan, row: Row, due: Row) -> Option<Rule>
     ensures rule { (rows : List TraceRow) → length rows < plan.now.cores * plan.now.ticks → is_in_turn plan.now rows row ≡ true → IsNextRow plan.now rows row.core.0 due → result ≡ refused plan.now rows row }
     ensures as_due { result ≡ None → row.core.0 ≡ due.core.0 → IsAs due row }
 {
     let unlike = unlike_due(row, due);
-    // A row as the one that is due has a job of its core.
+    // A row with the expected job has a job of its core.
     if unlike.is_some() && !is_own(plan, row) {
         return Some(Rule::A2);
     }
@@ -76,8 +77,8 @@ fn broken_by(plan: &Plan, row: Row, due: Row) -> Option<Rule>
 }
 
 impl<'a> Auditor<'a> {
-    /// An auditor before the first row. All memory that it ever needs is taken here: it is [`Memory`] only where that
-    /// was refused. The levels are those of the plan.
+    /// An auditor before the first row, with all the memory that it will ever need; [`Memory`] only
+    /// if memory runs out. The levels are the plan's.
     pub fn with_room(
         alloc: Global,
         plan: &'a Plan,
@@ -96,7 +97,7 @@ impl<'a> Auditor<'a> {
         })
     }
 
-    // How many rows came before the first fault.
+    // The number of rows before the first fault.
     #[inline(always)]
     fn fed(&self) -> u32
         ensures fed { result ≡ self.now.fed }
@@ -106,7 +107,7 @@ impl<'a> Auditor<'a> {
         self.tick * cores + (cores - self.left)
     }
 
-    // The next row breaks this rule.
+    // Notes that the next row violates this rule.
     fn fail(&mut self, rule: Rule) -> Fault
         ensures fault { result ≡ record { row = self.old.fed + 1; rule = rule } }
         ensures same { self.new ≡ record self.old { fault = Some result } }
@@ -119,7 +120,7 @@ impl<'a> Auditor<'a> {
         fault
     }
 
-    /// The tick that is due, while the rows so far have no fault. After the last row it is the number of ticks.
+    /// The expected tick, while no row has a fault. After the last row it is the number of ticks.
     #[inline(always)]
     pub fn tick(&self) -> u32
         ensures tick { (rows : List TraceRow) → HasFed self.now rows → self.now.fault ≡ None → result ≡ length rows / self.now.plan.cores }
@@ -137,7 +138,7 @@ impl<'a> Auditor<'a> {
         self.fault.is_none() && self.tick < self.plan.ticks()
     }
 
-    // Whether a core of the plan has no row in the tick of the next row yet.
+    // Whether a core of the plan has no row yet in the next row's tick.
     #[inline(always)]
     fn is_due_in_tick(&self, core: CoreId) -> bool
         requires core { core.0 < self.now.plan.cores }
@@ -159,8 +160,8 @@ impl<'a> Auditor<'a> {
         self.has_rows_left() && self.is_due_in_tick(core)
     }
 
-    /// Whether a core may have its turn now: its turn in the tick that is due is still to come. It is false after a fault, and where no rows
-    /// are left.
+    /// Whether a core may have its turn now: it is still to come in the expected tick. False after
+    /// a fault, and after the last row.
     #[inline(always)]
     pub fn is_due(&self, core: CoreId) -> bool
         ensures due { result ≡ true → IsDueInAudit self.now core.0 }
@@ -190,7 +191,7 @@ impl<'a> Auditor<'a> {
         self.cores.repeat(core)
     }
 
-    /// The core's turn, as by [`turn`](Auditor::turn), but it isn't looked first whether its row is known from the last one: that is for
+    /// The core's turn, as by [`turn`](Auditor::turn), without first trying
     /// [`repeat`](Auditor::repeat).
     #[inline(always)]
     pub fn turn_anew(&mut self, core: CoreId) -> Row
@@ -206,8 +207,8 @@ impl<'a> Auditor<'a> {
         self.cores.turn(core)
     }
 
-    /// The core's turn: the row that is due of it, with its ahead. What came is told by [`accept`](Auditor::accept) or
-    /// [`judge`](Auditor::judge).
+    /// The core's turn: its expected row, with its ahead. Report the trace's row by
+    /// [`accept`](Auditor::accept) or [`judge`](Auditor::judge).
     #[inline(always)]
     pub fn turn(&mut self, core: CoreId) -> Row
         requires { IsDueInAudit self.old core.0 }
@@ -224,7 +225,7 @@ impl<'a> Auditor<'a> {
         }
     }
 
-    /// The row that came is the one that was due of the core that had its turn, with its ahead or without.
+    /// The trace's row is the core's expected one, with or without its ahead.
     #[inline(always)]
     pub fn accept(&mut self)
         requires { self.old.fed < self.old.plan.cores * self.old.plan.ticks }
@@ -238,7 +239,7 @@ impl<'a> Auditor<'a> {
         }
     }
 
-    /// The row that came, in the tick and of the core of the one that was due, against that: the fault of the rows so far, if they have one.
+    /// Judges the trace's row, of the expected row's tick and core: the fault of the rows so far.
     #[inline(always)]
     pub fn judge(&mut self, due: Row, row: Row) -> Result<(), Fault>
         requires { self.old.fed < self.old.plan.cores * self.old.plan.ticks }
@@ -256,8 +257,8 @@ impl<'a> Auditor<'a> {
         }
     }
 
-    /// Whether a row is in its turn: of the tick that is due, and of a core that has its turn in it still to come. While the rows so far have
-    /// no fault and rows are left, a row that isn't is A1.
+    /// Whether a row is in its turn: of the expected tick, and of a core whose turn in it is still
+    /// to come. If not, while rows are left and none has a fault, it violates A1.
     #[inline(always)]
     pub fn is_in_turn(&self, row: Row) -> bool
         ensures turn { (rows : List TraceRow) → HasFed self.now rows → self.now.fault ≡ None → length rows < self.now.plan.cores * self.now.plan.ticks → result ≡ is_in_turn self.now.plan rows row }
@@ -267,7 +268,7 @@ impl<'a> Auditor<'a> {
         row.tick == self.tick && self.is_due(row.core)
     }
 
-    // The rule that a row breaks that isn't in its turn.
+    // The rule that a row out of turn violates.
     fn rule_out_of_turn(&self) -> Rule
         ensures { (rows : List TraceRow) (row : TraceRow) → HasFed self.now rows → self.now.fault ≡ None → IsOutOfTurn self.now.plan rows row → Some result ≡ refused self.now.plan rows row }
     {
@@ -279,7 +280,7 @@ impl<'a> Auditor<'a> {
         }
     }
 
-    /// The fault of a row that isn't in its turn, behind rows without one.
+    /// The fault of a row out of turn, after rows without one.
     pub fn fault_out_of_turn(&self) -> Fault
         ensures { (rows : List TraceRow) (row : TraceRow) → HasFed self.now rows → self.now.fault ≡ None → IsOutOfTurn self.now.plan rows row → fault_in self.now.plan (rows ++ row ∷ []) ≡ Some result }
     {
@@ -289,7 +290,7 @@ impl<'a> Auditor<'a> {
         }
     }
 
-    /// What decides who has the core's next turn, while the rows so far have no fault; none of a core that the plan hasn't.
+    /// What decides which job of the core runs next, without a fault so far; none if no such core.
     pub fn state(&self, core: CoreId) -> Option<CoreState>
         ensures { (rows : List TraceRow) → HasFed self.now rows → self.now.fault ≡ None → IsStateAfter self.now.plan rows core.0 result }
     {
@@ -300,8 +301,8 @@ impl<'a> Auditor<'a> {
         }
     }
 
-    /// The next row: the fault of the rows so far, if they have one, whatever is still missing. After a fault it
-    /// answers that same fault. It takes no memory.
+    /// Judges the next row: the fault of the rows so far, if any, whatever is still missing. After
+    /// a fault it returns the same one. Needs no memory.
     #[inline(always)]
     pub fn feed(&mut self, row: Row) -> Result<(), Fault>
         ensures plan { self.new.plan ≡ self.old.plan }
@@ -321,8 +322,8 @@ impl<'a> Auditor<'a> {
         self.judge(due, row)
     }
 
-    /// The verdict on the rows so far as a whole trace: their fault, else the first missing row. It changes nothing,
-    /// so that rows may be fed after it.
+    /// The verdict on the rows so far as a whole trace: their fault, otherwise the first missing
+    /// row. Changes nothing, so more rows may be fed.
     pub fn end(&self) -> Result<(), Fault>
         ensures { (rows : List TraceRow) → HasFed self.now rows → result ≡ answer_of (verdict self.now.plan rows) }
     {

@@ -1,11 +1,11 @@
-//! A row against the one that was due.
+//! A row compared with the expected one: the lowest rule that it violates.
 ghost use Rattle.std.specs.Prelude.{◌≡◌};
 ghost use Rattle.msrp_plan.specs.Common.{same_choice, same_res, same_kind};
 ghost use Rattle.msrp_audit.specs.Foresight.{same_action, same_ahead, does_alike, replied_alike, unlike, unlike_turn};
 
 use msrp_plan::{Kind, Row, Rule};
 
-// The kinds are the same but for the answer.
+// Whether the kinds are equal, up to the answer.
 #[inline(always)]
 fn is_same_action(kind: Kind, due: Kind) -> bool
     ensures { result ≡ same_action kind due }
@@ -31,7 +31,7 @@ fn replied_as(row: Row, due: Row) -> bool
     row.kind == due.kind && (row.ahead.is_none() || row.ahead == due.ahead)
 }
 
-// The lower of the rules on job and action that the row breaks, where the other is the row that is due.
+// The lower of the rules on job and action that the row violates, given the expected row.
 #[inline(always)]
 pub(crate) fn unlike_turn(row: Row, due: Row) -> Option<Rule>
     ensures { result ≡ unlike_turn row due }
@@ -45,7 +45,7 @@ pub(crate) fn unlike_turn(row: Row, due: Row) -> Option<Rule>
     }
 }
 
-// The lowest of the rules on job, action and reply that the row breaks, where the other is the row that is due.
+// The lowest of the rules on job, action and reply that the row violates, given the expected row.
 #[inline(always)]
 pub(crate) fn unlike_due(row: Row, due: Row) -> Option<Rule>
     ensures { result ≡ unlike row due }

@@ -1,4 +1,4 @@
-//! The rows of one core: A2 to A4.
+//! One core's rows, judged against a machine that follows them: A2 to A4.
 ghost use Rattle.std.specs.Prelude.{◌≡◌, ◌<◌, ◌≤◌, ◌*◌, ◌+◌, ◌++◌, ◌∷◌};
 ghost use Rattle.msrp_plan.specs.Common.{[], List, IfOk, None, length, true, log_of, IsRunStart, is_in_turn, IsPlan};
 ghost use Rattle.msrp_plan.specs.declared.rows.Row.{Row as TraceRow};
@@ -15,7 +15,7 @@ use msrp_levels::Levels;
 use msrp_plan::{CoreId, Fault, Memory, Plan, Row, Rule};
 use std::alloc::Global;
 
-// Whether the row at this index is in its tick, and its core had its turn in each tick before.
+// Whether the row at this index is in its tick, and its core had its turn in each earlier tick.
 fn is_in_turn(plan: &Plan, machine: &Machine, row: Row, index: usize) -> bool
     requires index { index < plan.now.cores * plan.now.ticks }
     requires core { row.core.0 < plan.now.cores }
@@ -43,8 +43,7 @@ fn follow(plan: &Plan, machine: &mut Machine<'_>, row: Row) -> Option<Rule>
     unlike_turn(row, expected)
 }
 
-/// The first row of the core whose job, choice or action violates a rule. A row that isn't in its turn
-/// ends the piece: the turns report it.
+/// The core's first row with a wrong job, choice or action. A row out of turn ends the piece.
 pub(crate) fn judge_core(
     alloc: Global,
     plan: &Plan,

@@ -8,7 +8,7 @@ use msrp_plan::{CoreId, Memory, Plan, ResId, Row};
 use std::alloc::Global;
 use std::marker::Model;
 
-/// The rows that a piece reads: the small ones, and then the others.
+/// The rows that a piece reads: the small ones, then the others.
 #[derive(Drop)]
 pub(crate) struct Rows<'a> {
     small: &'a [SmallRow],
@@ -82,8 +82,7 @@ impl<'a> Rows<'a> {
     }
 }
 
-/// Rows that are gathered before they are judged: each in eight bytes, up to the first one whose
-/// numbers are too large.
+/// Rows gathered before they are judged: in eight bytes each, up to the first too large number.
 #[derive(Drop)]
 pub struct Gathered {
     small: Vec<SmallRow>,
@@ -102,8 +101,7 @@ impl Model for Gathered {
 }
 
 impl Gathered {
-    /// No row yet, with room for a run of the plan and one row more. It is [`Memory`] only where the
-    /// allocation failed.
+    /// No row yet, with room for one row more than a run; [`Memory`] only if memory runs out.
     pub fn with_room(alloc: Global, plan: &Plan) -> Result<Gathered, Memory>
         ensures { IfOk result (λ rows. rows ≡ []) }
     {
@@ -134,11 +132,11 @@ impl Gathered {
     pub fn len(&self) -> usize
         ensures { result ≡ length self.now }
     {
-        // As slices: of these it is known how many bytes they have at most, so the sum fits.
+        // As slices, whose greatest size in bytes is known, so the sum fits.
         self.small.as_slice().len() + self.others.as_slice().len()
     }
 
-    /// The first rows, at most so many.
+    /// The first rows, `most` at most.
     pub(crate) fn first(&self, most: usize) -> Rows<'_>
         ensures { result ≡ take most self.now }
     {

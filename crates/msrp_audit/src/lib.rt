@@ -1,7 +1,7 @@
-//! The auditor: it accepts exactly the legal runs, and names the first row that breaks a rule.
+//! The auditor: it accepts exactly the legal runs, and names the first row that violates a rule.
 //!
-//! [`audit`] judges a whole trace, and [`audit_parallel`] does so in pieces, which threads share, as [`audit_gathered`] does with rows that are
-//! [`Gathered`]. An [`Auditor`] judges rows as they come.
+//! [`audit`] judges a whole trace. [`audit_parallel`] does so in pieces, which threads share, and
+//! [`audit_gathered`] does with [`Gathered`] rows. An [`Auditor`] judges rows as they arrive.
 #![tactic(auto)]
 
 mod auditor;

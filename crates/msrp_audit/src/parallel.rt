@@ -1,4 +1,4 @@
-//! The verdict on a whole trace, by pieces.
+//! The verdict on a whole trace by independent pieces: the earliest fault of any piece counts.
 ghost use Rattle.std.specs.Prelude.{◌≡◌, ◌≤◌, ◌<◌, ◌*◌, ◌+◌};
 ghost use Rattle.msrp_plan.specs.Common.{nat_lt, IfOk, List, length, take, most_rows, fault_in, verdict};
 ghost use Rattle.msrp_plan.specs.declared.rows.Row.{Row as TraceRow};
@@ -19,7 +19,7 @@ fn rule_number(rule: Rule) -> u32
     rule as u32 + 1
 }
 
-// Whether the fault stands before the other: in an earlier row, or in the same row with a lower rule.
+// Whether the fault is before the other: in an earlier row, or in the same row with a lower rule.
 fn comes_before(fault: Fault, other: Fault) -> bool
     ensures { result ≡ nat_lt (fault_order fault) (fault_order other) }
 {
@@ -27,7 +27,7 @@ fn comes_before(fault: Fault, other: Fault) -> bool
         || fault.row == other.row && rule_number(fault.rule) < rule_number(other.rule)
 }
 
-// The earlier of two faults, of which one may be missing.
+// The earlier of two faults, if any.
 fn earlier(first: Option<Fault>, other: Option<Fault>) -> Option<Fault>
     ensures { result ≡ earlier_of first other }
 {
@@ -49,7 +49,7 @@ fn earliest(faults: &[Option<Fault>]) -> Option<Fault>
     first
 }
 
-// The first fault of rows that are not more than the plan has turns: each piece tells its own, and the earliest counts.
+// The first fault of rows, at most the plan's turns: the earliest of the pieces' faults.
 fn first_fault(
     rt: &(impl Threads + Sync),
     alloc: Global,
@@ -77,7 +77,7 @@ fn first_fault(
     }
 }
 
-// The fault of the length, where no row that is due has one: a row is missing, or there is one too many.
+// The fault of the length, if no expected row has one: a row is missing, or there is one too many.
 fn length_fault(due: u32, rows: usize) -> Result<(), Fault>
     requires { due ≤ most_rows }
     ensures { result ≡ answer_of (length_fault_of due rows) }
@@ -97,7 +97,7 @@ fn length_fault(due: u32, rows: usize) -> Result<(), Fault>
     Ok(())
 }
 
-// How many rows are due: each core has a turn in each tick.
+// The number of rows of a run: each core has a turn in each tick.
 fn due_rows(plan: &Plan) -> u32
     ensures rows { result ≡ plan.now.cores * plan.now.ticks }
     ensures few { result ≤ most_rows }
@@ -105,7 +105,7 @@ fn due_rows(plan: &Plan) -> u32
     plan.cores() * plan.ticks()
 }
 
-// The verdict on so many rows, where those that are judged are the first of them, as many as are due at most.
+// The verdict on this many rows; the judged ones are the first of them, at most a run's.
 fn audit_rows(
     rt: &(impl Threads + Sync),
     alloc: Global,
@@ -123,9 +123,9 @@ fn audit_rows(
     }
 }
 
-/// The verdict on a trace, as [`audit`](crate::audit) gives it. The turns of the ticks, the rows of each core and the rows
-/// on each global resource are pieces of one list, which `rayon` shares among threads. It is [`Memory`] only where memory
-/// was refused.
+/// The verdict on a trace, equal to [`audit`](crate::audit)'s. The pieces are some ticks' turns, a
+/// core's rows, and the rows on a global resource; `rayon` shares them among threads. [`Memory`]
+/// only if memory runs out.
 pub fn audit_parallel(
     rt: &(impl Threads + Sync),
     alloc: Global,

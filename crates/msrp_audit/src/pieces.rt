@@ -1,4 +1,4 @@
-//! The pieces of an audit: each looks at some of the rows alone.
+//! The pieces of an audit: each judges some of the rows alone, by some of the rules.
 ghost use Rattle.std.specs.Prelude.{◌≡◌, ◌≤◌, ◌<◌, ◌*◌};
 ghost use Rattle.msrp_plan.specs.Common.{IfOk, length, IsPlan};
 ghost use Rattle.msrp_audit.specs.Inside.Pieces.{broken_in, parts, piece_with, pieces_of, TellsFirst};
@@ -22,7 +22,7 @@ pub enum Piece {
     Resource(ResId),
 }
 
-// How many parts the ticks have, of which the last may be empty.
+// The number of parts of the ticks; the last may be empty.
 fn parts(plan: &Plan) -> u32
     ensures { result ≡ parts plan.now }
 {
@@ -53,7 +53,7 @@ fn piece_at(plan: &Plan, number: u32) -> Piece
     }
 }
 
-/// The first fault that the piece of that number finds in the rows, which are not more than the plan has turns.
+/// The first fault that the piece of that number finds in the rows, at most the plan's turns.
 pub(crate) fn judge(
     alloc: Global,
     plan: &Plan,

@@ -1,4 +1,4 @@
-//! The queue of one resource: A5.
+//! One resource's rows, judged against its queue: A5.
 ghost use Rattle.std.specs.Prelude.{◌≡◌, ◌<◌, ◌≤◌, ◌*◌};
 ghost use Rattle.msrp_plan.specs.Common.{IfOk, length, counts, is_behind, is_first, is_reply_of, replies, list_any, same_job};
 ghost use Rattle.msrp_audit.specs.Inside.Pieces.{broken_reply, TellsFirst};
@@ -54,17 +54,17 @@ fn counts(queue: &[JobId], row: Row) -> bool
     }
 }
 
-// Whether the row has the reply of that queue, and its ahead, if it carries one.
+// Whether the row has the queue's reply and, if it carries an ahead, the queue's length.
 fn is_reply(queue: &[JobId], row: Row) -> bool
     ensures { result ≡ is_reply_of queue.now row }
 {
     replies(queue, row) && counts(queue, row)
 }
 
-/// The first row on a global resource that has not its queue's reply.
+/// The first row on a global resource that hasn't its queue's reply.
 ///
-/// The queue of a legal run never has more jobs than the plan has cores. Where it has, an earlier row
-/// violates a rule, and this piece reports no more.
+/// In a legal run no queue has more jobs than the plan has cores. If one has, an earlier row
+/// violates a rule, and this piece reports nothing more.
 pub(crate) fn judge_resource(
     alloc: Global,
     plan: &Plan,

@@ -1,4 +1,4 @@
-//! One turn of a machine over a port that answers as a row says.
+//! One turn of a machine, with a row's own answer in place of a queue's: so a core is judged alone.
 ghost use Rattle.std.specs.Prelude.{◌≡◌, ◌<◌, ◌+◌, ◌++◌, ◌∷◌};
 ghost use Rattle.msrp_plan.specs.Common.{[], List, length, true, None, ForSome, IsCoreTurn};
 ghost use Rattle.msrp_plan.specs.declared.rows.Row.{Row as TraceRow};
@@ -12,7 +12,7 @@ use msrp_core::{Machine, Port, PortCall, Reply};
 use msrp_plan::{Call, CoreId, Kind, Plan, ResId, Row};
 use std::marker::{Brand, PhantomData};
 
-// Names what a core called before the turn, and the answer of the turn.
+// Names the core's calls before the turn, and the turn's answer.
 trait Script {
     ghost use Rattle.std.specs.Prelude.{List, Bool};
     ghost use Rattle.msrp_core.specs.declared.port.PortCall.{PortCall as CoreCall};
@@ -37,7 +37,7 @@ fn says_yes(kind: Kind) -> bool
     matches!(kind, Kind::Take | Kind::Grant)
 }
 
-// A port for one turn of one core: it answers yes to all, or no.
+// A port for one turn of one core: it answers yes to all, or no to all.
 #[derive(Drop)]
 struct TurnPort<B: Script> {
     core: CoreId,
@@ -119,8 +119,8 @@ fn turn_over<B: Script>(plan: &Plan, machine: &mut Machine<'_>, row: Row) -> Row
     machine.turn(&mut port)
 }
 
-/// The machine's turn, where a global resource answers as the row says: where the row does the same as the core, it has
-/// the same answer.
+/// The machine's turn with the row's answer for a global resource: if the row does what the core
+/// does, it has the same answer.
 pub(crate) fn turn_as(plan: &Plan, machine: &mut Machine<'_>, row: Row) -> Row
     requires plan { machine.old.plan ≡ plan.now }
     requires tick { machine.old.tick < machine.old.plan.ticks }

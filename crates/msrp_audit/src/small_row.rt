@@ -1,4 +1,4 @@
-//! A row in eight bytes.
+//! A row in eight bytes, so that an audit in pieces can store all rows cheaply.
 ghost use Rattle.std.specs.Prelude.{◌≡◌, ◌-◌};
 ghost use Rattle.msrp_plan.specs.Common.{IfSome, nat_le, is_of, is_on, ahead_of_kind, job_of_kind, res_of_kind};
 ghost use Rattle.msrp_audit.specs.Inside.SmallRows.{job_in, kind_coded, res_in, row_of};
@@ -6,8 +6,7 @@ ghost use Rattle.msrp_audit.specs.Inside.SmallRows.{job_in, kind_coded, res_in, 
 use msrp_plan::{CoreId, JobId, Kind, ResId, Row, TaskId};
 use std::mem::size_of;
 
-/// A row in eight bytes, for rows with small numbers. A part that the row lacks is stored as zero,
-/// and isn't read.
+/// A row in eight bytes, if its numbers are small. A part that it lacks is zero and isn't read.
 #[derive(Clone, Copy)]
 pub(crate) struct SmallRow {
     tick: u16,
@@ -15,8 +14,7 @@ pub(crate) struct SmallRow {
     task: u8,
     res: u8,
     core: u8,
-    // The place of the row's kind in `KINDS`, or `QUEUE_LENGTH` plus the queue length of a queue row
-    // that carries it.
+    // The index of the row's kind in `KINDS`, or `QUEUE_LENGTH` plus the ahead that it carries.
     code: u8,
 }
 

@@ -1,4 +1,4 @@
-//! The turns of some ticks: A1.
+//! The turns of some ticks, in which each core must have exactly one: A1.
 ghost use Rattle.std.specs.Prelude.{◌≡◌, ◌≤◌, ◌<◌, ◌*◌, ◌/◌, ◌==◌};
 ghost use Rattle.msrp_plan.specs.Common.{List, length, true, IsRunStart, is_in_turn, IsPlan};
 ghost use Rattle.msrp_plan.specs.declared.rows.Row.{Row as TraceRow};
@@ -17,7 +17,7 @@ pub(crate) const TICKS_A_PIECE: u32 = 1_250;
 pub(crate) fn is_in_tick(cores: u32, tick: u32, index: usize) -> bool
     ensures { 0 < cores → result ≡ (tick == index / cores) }
 {
-    // A product, since a division takes as long as all else that is asked of a row.
+    // A product: a division would take as long as the rest of the check of a row.
     let first = tick as usize * cores as usize;
     first <= index && index < first + cores as usize
 }

@@ -1,4 +1,4 @@
-//! The verdict on a whole trace.
+//! The verdict on a whole trace by one auditor, row by row.
 ghost use Rattle.std.specs.Prelude.{◌≡◌};
 ghost use Rattle.msrp_plan.specs.Common.{[], Err, IfOk, verdict};
 ghost use Rattle.msrp_plan.specs.declared.faults.Fault.{Fault as TraceFault};
@@ -24,8 +24,8 @@ fn feed_all(auditor: &mut Auditor<'_>, rows: &[Row]) -> Result<(), Fault>
     Ok(())
 }
 
-/// The verdict on a trace, whoever made it: good exactly for the legal runs of the plan, else its first fault. It is
-/// [`Memory`] only where memory was refused.
+/// The verdict on any trace: good exactly for the legal runs of the plan, otherwise its first
+/// fault. [`Memory`] only if memory runs out.
 pub fn audit(alloc: Global, plan: &Plan, trace: &Trace) -> Result<Result<(), Fault>, Memory>
     ensures { IfOk result (λ answer. answer ≡ answer_of (verdict plan.now trace.now.rows.items)) }
 {

@@ -1,4 +1,4 @@
--- The rule of a board: what holds of its words and of the books of all its seats between any two steps.
+-- The rule of a board, on its words and the books of all seats, between any two steps.
 use Rattle.msrp_plan.specs.Common.{ℕ, List, length, true, slice_index, Some, slice_get, slice_index_or}
 use Rattle.std.specs.Prelude.{◌≡◌, ◌+◌, ◌<◌, ◌≤◌, sum_by}
 use Rattle.msrp_board.specs.declared.books.Entry.{Entry}
@@ -11,8 +11,8 @@ use Rattle.msrp_board.specs.History.{Event, IsServed}
 use Rattle.msrp_board.specs.Words.{high, low}
 use Rattle.msrp_board.specs.Seats.{empty_book}
 
--- a whole board: its ticket words, that of resource 0 first, its barrier word, all its books, that of core 0 first,
--- and the conductor's
+-- a whole board: its ticket words, from resource 0 on, its barrier word, all its books, from core 0
+-- on, and the conductor's
 pub record WholeBoard : Type 0 where
   pub size : BoardSize
   pub tickets : List ℕ
@@ -42,14 +42,14 @@ pub record IsTied (s : WholeBoard) : Type 0 where
   pub cores : length s.books ≡ s.size.cores
   pub words : length s.tickets ≡ s.size.resources
   pub limits : IsSize s.size
-  -- the ticket word of each resource counts its requests, high, and its releases, low, and its one history is that of
-  -- a first-in-first-out lock
+  -- the ticket word of each resource counts its requests, high, and its releases, low, and its one
+  -- history is that of a first-in-first-out lock
   pub served : (g : ℕ) → g < s.size.resources → (h : List Event) × IsServed (slice_index s.tickets g) g (entries_at s.books) h
   pub kept : (c : ℕ) (b : Book) → slice_get s.books c ≡ Some b → IsKept s.size b
   -- the barrier word counts the arrivals and the opening, low, and the abort, high
   pub arrivals : low s.barrier ≡ sum_by (λ b. b.tick) s.books + opening_count s.conductor
   pub abort : high s.barrier ≡ abort_count s.conductor
-  -- a core was told to stop only after an abort
+  -- a core saw the stop only after an abort
   pub told : (c : ℕ) (b : Book) → slice_get s.books c ≡ Some b → b.stopped ≡ true → s.conductor ≡ Aborted
-  -- whoever is or was admitted to tick t met all who left the ticks below t
+  -- each core that is or was admitted to tick t met all that left the ticks below t
   pub met : (c t : ℕ) (b : Book) → slice_get s.books c ≡ Some b → t < admissions b → (s.conductor ≡ Opened) × ((d : ℕ) (e : Book) → slice_get s.books d ≡ Some e → t ≤ e.tick)

@@ -1,4 +1,4 @@
--- What a core's book says of the core, and what every book keeps: the rule's part on one book. Entries stand oldest first.
+-- What a book says of its core, and the rule's part on one book. The oldest entry is first.
 use Rattle.std.specs.Prelude.{◌<◌, ◌≤◌, ◌∷◌, ◌==◌, if◌then◌else◌}
 use Rattle.msrp_plan.specs.Common.{ℕ, suc, List, [], Bool, true, false, nat_lt, map, ⊤, list_any, filter, AllByRecursion, ResCall, claim_after, most_cores, most_resources}
 use Rattle.msrp_plan.specs.declared.units.Call.{Call}
@@ -36,49 +36,49 @@ lock_of b = claim_after (res_calls b.entries)
 abbrev pub has_acted : Book → Bool
 has_acted b = list_any (λ e. e.tick == b.tick) b.entries
 
--- where a core stands that was told to stop or not, is let into its tick or not, and has a tick left or not
+-- a core's phase: stopped or not, in its tick or not, with a tick left or not
 abbrev pub phase_by : Bool → Bool → Bool → SeatPhase
 phase_by true admitted left = Stopped
 phase_by false true left = Admitted
 phase_by false false true = Waiting
 phase_by false false false = Done
 
--- where the core stands, on a board of so many ticks
+-- the core's phase, on a board of n ticks
 abbrev pub phase_in : ℕ → Book → SeatPhase
 phase_in ticks b = phase_by b.stopped b.admitted (nat_lt b.tick ticks)
 
--- the tick, and 1 where the core is let into it
+-- the tick, plus 1 if the core is let into it
 abbrev pub admissions_of : Bool → ℕ → ℕ
 admissions_of admitted tick = if admitted then suc tick else tick
 
--- the ticks below it are those to which the core is or was admitted
+-- the ticks below this are those to which the core is or was admitted
 abbrev pub admissions : Book → ℕ
 admissions b = admissions_of b.admitted b.tick
 
--- ---- what every book keeps
+-- ---- what holds of every book
 
--- a call at place p stands before a later one of the same core at place q: a request and a release take their
--- place, and a poll reads one
+-- a call at place p is before a later one of the same core at place q: a request and a release take
+-- their place, and a poll reads one
 abbrev pub IsBefore : Call → ℕ → ℕ → Type 0
 IsBefore (Ask n) p q = p < q
 IsBefore (Poll granted) p q = p ≤ q
 IsBefore Leave p q = p < q
 
--- all these entries stand before a later one at this place
+-- all these entries are before a later one at this place
 abbrev pub AreBefore : ℕ → List Entry → Type 0
 AreBefore place entries = AllByRecursion (λ e. IsBefore e.call e.place place) entries
 
--- x stands in R to the first element
+-- x and the first element are in relation R
 abbrev pub ToNext : {X : Type 0} → (X → X → Type 0) → X → List X → Type 0
 ToNext R x [] = ⊤
 ToNext R x (y ∷ ys) = R x y
 
--- each element stands in R to the next
+-- each element and the next are in relation R
 abbrev pub IsChain : {X : Type 0} → (X → X → Type 0) → List X → Type 0
 IsChain R [] = ⊤
 IsChain R (x ∷ xs) = ToNext R x xs × IsChain R xs
 
--- what every book keeps on a board of this size
+-- what holds of every book on a board of this size
 pub record IsKept (size : BoardSize) (b : Book) : Type 0 where
   -- the core is in no tick past the last
   pub within : admissions b ≤ size.ticks
@@ -90,5 +90,5 @@ pub record IsKept (size : BoardSize) (b : Book) : Type 0 where
   pub one_a_tick : IsChain (λ e f. e.tick < f.tick) b.entries
   -- places of one resource never fall, and rise after a request or a release
   pub places : (g : ℕ) → IsChain (λ e f. IsBefore e.call e.place f.place) (on_resource g b.entries)
-  -- the core requests where it is free, polls what it awaits, and releases what it holds
+  -- a free core requests, a waiting one polls what it awaits, a holder releases what it holds
   pub regular : IsRegular (res_calls b.entries)

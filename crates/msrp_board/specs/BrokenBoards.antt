@@ -1,4 +1,4 @@
--- Boards of two cores and one resource that break one line of the rule each: the conductor opened, and nobody was stopped but where it is said.
+-- Boards of two cores and one resource that violate one line of the rule each, mostly opened.
 use Rattle.std.specs.Prelude.{◌∷◌}
 use Rattle.msrp_plan.specs.Common.{ℕ, List, [], true, false, replicate}
 use Rattle.msrp_plan.specs.declared.units.Call.{Call}
@@ -15,7 +15,7 @@ use Rattle.msrp_board.specs.Steps.{book_with_stop}
 abbrev pub size : BoardSize
 size = record { cores = 2; resources = 1; ticks = 4 }
 
--- so many requests and releases, and arrivals with the opening
+-- these numbers of requests and releases, and of arrivals plus the opening
 abbrev board : ℕ → ℕ → ℕ → List Book → WholeBoard
 board requests releases arrivals books = record {
   size = size;
@@ -45,7 +45,7 @@ shared_ticket = board 2 0 1 (in_tick 0 (step 0 0 (Ask 0) ∷ []) ∷ in_tick 0 (
 abbrev pub counted_twice : WholeBoard
 counted_twice = board 1 2 3 (in_tick 1 (step 0 0 (Ask 0) ∷ step 1 1 Leave ∷ []) ∷ in_tick 1 [] ∷ [])
 
--- both requests are told that none is ahead
+-- both requests have the answer that none is ahead
 abbrev pub two_holders : WholeBoard
 two_holders = board 2 0 1 (in_tick 0 (step 0 0 (Ask 0) ∷ []) ∷ in_tick 0 (step 0 1 (Ask 0) ∷ []) ∷ [])
 
@@ -53,7 +53,7 @@ two_holders = board 2 0 1 (in_tick 0 (step 0 0 (Ask 0) ∷ []) ∷ in_tick 0 (st
 abbrev pub invented_grant : WholeBoard
 invented_grant = board 2 0 3 (in_tick 1 (step 0 0 (Ask 0) ∷ []) ∷ in_tick 1 (step 0 1 (Ask 1) ∷ step 1 2 (Poll true) ∷ []) ∷ [])
 
--- core 1 is told in tick 2 what was so before core 0 released in tick 1
+-- core 1's poll in tick 2 has the answer from before core 0's release in tick 1
 abbrev pub old_poll : WholeBoard
 old_poll = board 2 1 5 (in_tick 2 (step 0 0 (Ask 0) ∷ step 1 2 Leave ∷ []) ∷ in_tick 2 (step 0 1 (Ask 1) ∷ step 2 2 (Poll false) ∷ []) ∷ [])
 
@@ -65,7 +65,7 @@ acted_twice = board 1 1 1 (in_tick 0 (step 0 0 (Ask 0) ∷ step 0 1 Leave ∷ []
 abbrev pub lost_arrival : WholeBoard
 lost_arrival = board 0 0 2 (in_tick 1 [] ∷ in_tick 1 [] ∷ [])
 
--- core 0 was told to stop
+-- core 0 saw a stop
 abbrev pub invented_stop : WholeBoard
 invented_stop = board 0 0 1 (book_with_stop empty_book ∷ empty_book ∷ [])
 
@@ -80,7 +80,7 @@ second_word = record (board 0 0 1 (empty_book ∷ empty_book ∷ [])) { tickets 
 abbrev pub nine_cores : WholeBoard
 nine_cores = record (board 0 0 1 (replicate 9 empty_book)) { size = record size { cores = 9 } }
 
--- the conductor called the run off, and the barrier word says no such thing
+-- the conductor called the run off, and the barrier word doesn't count it
 abbrev pub lost_abort : WholeBoard
 lost_abort = record (board 0 0 0 (empty_book ∷ empty_book ∷ [])) { conductor = Aborted }
 

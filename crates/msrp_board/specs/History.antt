@@ -1,6 +1,7 @@
--- The history of a resource: what all cores did with it, in the one order of its ticket word, oldest first. In the words of Herlihy and
--- Wing (1990) a book is a core's local history, and a history that `IsServed` a linearization of the books: its sequential specification is
--- the first-in-first-out lock, and the linearization point of a step its instruction on the ticket word, which the place tells.
+-- The history of a resource: what all cores did with it, in the order of its ticket word, the
+-- oldest first. For Herlihy and Wing (1990), a book is a core's local history, a history that
+-- `IsServed` is a linearization of the books to the first-in-first-out lock, and a step's
+-- linearization point is its instruction on the ticket word, at its place.
 use Rattle.std.specs.Prelude.{◌≡◌, ◌<◌, ◌≤◌, ◌∷◌, ◌==◌, ◌⊎◌, if◌then◌else◌}
 use Rattle.msrp_plan.specs.Common.{ℕ, suc, List, [], map, Bool, true, false, count_by, ⊤, Legal}
 use Rattle.msrp_plan.specs.declared.units.Call.{Call}
@@ -13,7 +14,7 @@ use Rattle.msrp_board.specs.Books.{on_resource, IsChain}
 abbrev pub Event : Type 0
 Event = ℕ × Entry
 
--- what stands under the number c, in order
+-- the elements with number c, in order
 abbrev pub by_core : {X : Type 0} → ℕ → List (ℕ × X) → List X
 by_core c [] = []
 by_core c (x ∷ xs) = if x.0 == c then x.1 ∷ by_core c xs else by_core c xs
@@ -51,7 +52,7 @@ abbrev pub Placed : ℕ → List Event → Type 0
 Placed p [] = ⊤
 Placed p (s ∷ h) = (s.1.place ≡ p) × Placed (place_after p s.1.call) h
 
--- two polls that stand together, so that they read the same place, stand by tick, then by core
+-- two adjacent polls, which read the same place, are by tick, then by core
 abbrev pub PollsInOrder : Event → Event → Type 0
 PollsInOrder s x = is_poll s.1.call ≡ true → is_poll x.1.call ≡ true → (s.1.tick < x.1.tick) ⊎ ((s.1.tick ≡ x.1.tick) × (s.0 ≤ x.0))
 
@@ -59,14 +60,15 @@ PollsInOrder s x = is_poll s.1.call ≡ true → is_poll x.1.call ≡ true → (
 abbrev pub IsNotLater : Event → Event → Type 0
 IsNotLater s x = s.1.tick ≤ x.1.tick
 
--- h is the history of resource g by these books: it has the entries of each core's book on g, in order; requests
--- and releases stand by place, from 0 on, each place once, and a poll directly before the step of the place it read
+-- h is the history of resource g by these books: it has the entries of each core's book on g, in
+-- order; requests and releases are by place, from 0 on, each place once, and a poll directly before
+-- the step of the place it read
 pub record IsHistory (g : ℕ) (books : ℕ → List Entry) (h : List Event) : Type 0 where
   pub entries : (c : ℕ) → by_core c h ≡ on_resource g (books c)
   pub placed : Placed 0 h
   pub polls : IsChain PollsInOrder h
 
--- the history is what the ticket word counts, requests in its high half and releases in its low one, is answered as a first-in-first-out lock answers, and its ticks never fall
+-- the history fits the word's counts, has a first-in-first-out lock's answers, and ticks never fall
 pub record IsServed (word g : ℕ) (books : ℕ → List Entry) (h : List Event) : Type 0 where
   pub history : IsHistory g books h
   pub requests : count_by (λ s. is_request s.1.call) h ≡ high word
@@ -74,6 +76,6 @@ pub record IsServed (word g : ℕ) (books : ℕ → List Entry) (h : List Event)
   pub legal : Legal (calls h)
   pub rising : IsChain IsNotLater h
 
--- books have but one history of a resource
+-- the books determine a resource's history uniquely
 abbrev pub HistoryIsUnique : Type 0
 HistoryIsUnique = (g : ℕ) (books : ℕ → List Entry) (h k : List Event) → IsHistory g books h → IsHistory g books k → h ≡ k

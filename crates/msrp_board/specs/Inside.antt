@@ -1,6 +1,6 @@
--- How the promise is kept; no caller needs these words. A seat and the rule keep entries newest first, so that one entry
--- more is one step of a recursion. A word that says of such a list what a word of `Books`, `History` or `Boards` says of
--- the list oldest first has that word's name and the suffix `Newest`.
+-- How the promises are proved; no caller needs these definitions. Here entries are newest first, so
+-- that one more entry is one step of a recursion. A definition named like one of `Books`, `History`
+-- or `Boards` with the suffix `Newest` says the same of the reversed list.
 pub mod Newest
 pub mod Rule
 pub mod Held

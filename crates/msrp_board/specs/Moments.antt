@@ -1,4 +1,4 @@
--- A board between two steps: its words, and what each of its seats holds.
+-- A board between two steps: its words, and what each of its seats has.
 use Rattle.std.specs.Prelude.{◌≡◌}
 use Rattle.msrp_plan.specs.Common.{ℕ, List, Some, slice_get, slice_index, take}
 use Rattle.msrp_board.specs.declared.books.Book.{Book}
@@ -15,7 +15,7 @@ HoldsBook seats i c b = (seat : SeatModel) × (slice_get seats i ≡ Some seat) 
 abbrev pub HoldsConductor : List SeatModel → ℕ → Conductor → Type 0
 HoldsConductor seats i o = (seat : SeatModel) × (slice_get seats i ≡ Some seat) × (seat.conductor ≡ Some o)
 
--- the seats share out the books of a whole board: what a seat holds is the board's, and each book is with one seat
+-- the seats share out the books of a whole board: each book is in one seat, as the board has it
 pub record IsSharedOut (seats : List SeatModel) (whole : WholeBoard) : Type 0 where
   pub books : (i c : ℕ) (b : Book) → HoldsBook seats i c b → slice_get whole.books c ≡ Some b
   pub with_one : (c : ℕ) (b : Book) → slice_get whole.books c ≡ Some b → (i : ℕ) × HoldsBook seats i c b
@@ -24,8 +24,8 @@ pub record IsSharedOut (seats : List SeatModel) (whole : WholeBoard) : Type 0 wh
   pub conductor_with_one : (i : ℕ) × HoldsConductor seats i whole.conductor
   pub conductor_with_no_other : (i j : ℕ) (o e : Conductor) → HoldsConductor seats i o → HoldsConductor seats j e → i ≡ j
 
--- the words and the seats of a board of this size are tied: the seats share out a whole board with these words, which
--- keeps the rule
+-- the words and the seats of a board of this size are tied: the seats share out a whole board with
+-- these words, which obeys the rule
 pub record AreTied (size : BoardSize) (words : List ℕ) (seats : List SeatModel) : Type 0 where
   pub whole : WholeBoard
   pub sized : whole.size ≡ size
@@ -34,7 +34,7 @@ pub record AreTied (size : BoardSize) (words : List ℕ) (seats : List SeatModel
   pub shared : IsSharedOut seats whole
   pub tied : IsTied whole
 
--- what a seat holds is part of a whole board that keeps the rule
+-- what a seat has is part of a whole board that obeys the rule
 pub record StandsIn (seat : SeatModel) : Type 0 where
   pub whole : WholeBoard
   pub sized : whole.size ≡ seat.board.size

@@ -1,5 +1,5 @@
--- A port over a core's seat: what was asked through the seat, and how often its core may still call in its tick. For
--- whoever makes a core's calls on a board behind the five calls of a port: ask, poll, leave, room, resources.
+-- A port over a core's seat: what was asked through the seat, and how often its core may still call
+-- in its tick. For code that makes a core's calls through a port.
 use Rattle.std.specs.Prelude.{◌≡◌, ◌≢◌, ◌+◌, ◌∷◌, ◌++◌}
 use Rattle.msrp_plan.specs.Common.{ℕ, List, [], Bool, true, false, Some, None, ResCall}
 use Rattle.msrp_plan.specs.declared.ids.ResId.{ResId}
@@ -20,7 +20,7 @@ calls_in (Some b) = res_calls b.entries
 abbrev pub port_calls : SeatModel → ℕ → List ResCall
 port_calls seat c = calls_in (book_at seat c)
 
--- one call more, for a core that is let into its tick and has not acted in it
+-- one call for a core that is let into its tick and hasn't acted in it; otherwise none
 abbrev pub room_by : SeatPhase → Bool → ℕ
 room_by Waiting acted = 0
 room_by Admitted true = 0
@@ -44,7 +44,7 @@ pub record IsPort (board : BoardModel) (c : ℕ) (seat : SeatModel) : Type 0 whe
   pub of_core : IsCoreSeat seat c book
   pub stands : phase_in seat.board.size.ticks book ≡ Admitted
 
--- one call more of core c, which has one less to make
+-- one more call of core c, which may make one less
 pub record AddsCall (c : ℕ) (res : ResId) (call : Call) (old new : SeatModel) : Type 0 where
   pub calls : port_calls new c ≡ port_calls old c ++ (res, call) ∷ []
   pub room : port_room new c + 1 ≡ port_room old c

@@ -1,4 +1,4 @@
--- What a board and a seat are to their callers, what every seat keeps, and what a seat must be for a call.
+-- What callers see of a board and a seat, what holds of every seat, and what each call requires.
 use Rattle.std.specs.Prelude.{◌≡◌, ◌<◌, ◌⊎◌}
 use Rattle.msrp_plan.specs.Common.{ℕ, List, [], false, replicate, Some, None, IsSome, slice_index_or}
 use Rattle.msrp_plan.specs.declared.units.Phase.{Phase}
@@ -12,28 +12,28 @@ use Rattle.msrp_board.specs.declared.books.Conductor.{Conductor}
 use Rattle.msrp_board.specs.declared.books.Conductor.TheVariants.{Unopened}
 use Rattle.msrp_board.specs.Books.{IsSize, lock_of, has_acted, phase_in, IsKept}
 
--- which board it is, and how large
+-- the identity of a board, and its size
 pub record BoardModel : Type 0 where
   pub table : TableId
   pub size : BoardSize
 
--- a seat of a board holds the books of some cores, by their numbers, and the conductor's, or not
+-- a seat of a board has the books of some cores, by number, and perhaps the conductor's
 pub record SeatModel : Type 0 where
   pub board : BoardModel
   pub books : List (Option Book)
   pub conductor : Option Conductor
 
--- the book of core c, where the seat holds it
+-- the book of core c, if the seat has it
 abbrev pub book_at : SeatModel → ℕ → Option Book
 book_at seat c = slice_index_or seat.books c None
 
--- what every seat keeps: its books are of cores of the board, and each keeps the rule's part on one book
+-- what holds of every seat: its books are of the board's cores, and each obeys its part of the rule
 pub record IsSeat (seat : SeatModel) : Type 0 where
   pub limits : IsSize seat.board.size
   pub cores : (c : ℕ) (b : Book) → book_at seat c ≡ Some b → c < seat.board.size.cores
   pub kept : (c : ℕ) (b : Book) → book_at seat c ≡ Some b → IsKept seat.board.size b
 
--- the book of a core that did nothing yet: it waits for tick 0
+-- the book of a core that has done nothing yet: it waits for tick 0
 abbrev pub empty_book : Book
 empty_book = record { entries = []; tick = 0; admitted = false; stopped = false }
 
@@ -43,7 +43,7 @@ first_seat board = record { board = board; books = replicate board.size.cores (S
 
 -- ---- what a seat must be for a call
 
--- a core's seat holds the book of that core and nothing else
+-- a core's seat has the book of that core and nothing else
 pub record IsCoreSeat (seat : SeatModel) (c : ℕ) (b : Book) : Type 0 where
   pub book : book_at seat c ≡ Some b
   pub only : (d : ℕ) (e : Book) → book_at seat d ≡ Some e → d ≡ c
@@ -78,11 +78,11 @@ pub record MayAct (lock : Phase) (seat : SeatModel) : Type 0 where
 abbrev pub IsFresh : SeatModel → Type 0
 IsFresh seat = (lock : Phase) × MayAct lock seat
 
--- the seat holds another book than that of core c: another core's, or the conductor's
+-- the seat has another book than that of core c: another core's, or the conductor's
 abbrev pub HasAnother : ℕ → SeatModel → Type 0
 HasAnother c seat = ((d : ℕ) × (b : Book) × (book_at seat d ≡ Some b) × ¬ (d ≡ c)) ⊎ IsSome seat.conductor
 
--- the seat holds the book of each core, and the conductor's
+-- the seat has the book of each core, and the conductor's
 pub record HasAll (seat : SeatModel) : Type 0 where
   pub cores : (c : ℕ) → c < seat.board.size.cores → IsSome (book_at seat c)
   pub conductor : IsSome seat.conductor

@@ -16,15 +16,15 @@ use Rattle.msrp_board.specs.Seats.{SeatModel, book_at}
 abbrev pub with_books : (Book → Book) → SeatModel → SeatModel
 with_books f seat = record { board = seat.board; books = map (option_map f) seat.books; conductor = seat.conductor }
 
--- the book with one entry more: its present tick, the resource, the place and the call with its answer
+-- the book with one more entry: its present tick, the resource, the place, the answered call
 abbrev pub book_with_entry : ResId → ℕ → Call → Book → Book
 book_with_entry g place call b = record { entries = b.entries ++ record { tick = b.tick; res = g; place = place; call = call } ∷ []; tick = b.tick; admitted = b.admitted; stopped = b.stopped }
 
--- a core's seat with one entry more in its book
+-- a core's seat with one more entry in its book
 abbrev pub with_entry : ResId → ℕ → Call → SeatModel → SeatModel
 with_entry g place call seat = with_books (book_with_entry g place call) seat
 
--- the place stands behind all that the seat's books have of resource g
+-- the place is after all that the seat's books have of resource g
 abbrev pub IsBehind : ℕ → ℕ → SeatModel → Type 0
 IsBehind g place seat = (c : ℕ) (b : Book) → book_at seat c ≡ Some b → AreBefore place (on_resource g b.entries)
 
@@ -38,19 +38,19 @@ book_with_admission b = record { entries = b.entries; tick = b.tick; admitted = 
 abbrev pub with_admission : SeatModel → SeatModel
 with_admission seat = with_books book_with_admission seat
 
--- the book of a core that is told that the run is off
+-- the book of a core that saw the stop
 abbrev pub book_with_stop : Book → Book
 book_with_stop b = record { entries = b.entries; tick = b.tick; admitted = b.admitted; stopped = true }
 
--- the core is told that the run is off
+-- the core saw the stop
 abbrev pub with_stop : SeatModel → SeatModel
 with_stop seat = with_books book_with_stop seat
 
--- the book of a core that has arrived from its tick, and waits for the next
+-- the book of a core that has arrived from its tick
 abbrev pub book_with_arrival : Book → Book
 book_with_arrival b = record { entries = b.entries; tick = suc b.tick; admitted = false; stopped = b.stopped }
 
--- the core has arrived from its tick, and waits for the next
+-- the core has arrived from its tick
 abbrev pub with_arrival : SeatModel → SeatModel
 with_arrival seat = with_books book_with_arrival seat
 
@@ -72,7 +72,7 @@ none_at c [] = []
 none_at zero (x ∷ xs) = None ∷ xs
 none_at (suc c) (x ∷ xs) = x ∷ none_at c xs
 
--- the first where there is one, else the second
+-- the first if there is one, otherwise the second
 abbrev pub either : {X : Type 0} → Option X → Option X → Option X
 either None y = y
 either (Some x) y = Some x

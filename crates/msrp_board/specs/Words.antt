@@ -2,7 +2,7 @@
 use Rattle.std.specs.Prelude.{◌+◌, ◌*◌, ◌/◌, ◌%◌}
 use Rattle.msrp_plan.specs.Common.{ℕ}
 
--- how many numbers half a word has: one more in the high half adds so much to a word
+-- what one more in the high half adds to a word
 abbrev pub half_word : ℕ
 half_word = 4294967296
 
@@ -14,6 +14,6 @@ high word = word / half_word
 abbrev pub low : ℕ → ℕ
 low word = word % half_word
 
--- the ticket word that counts so many requests and releases
+-- the ticket word with these numbers of requests and releases
 abbrev pub ticket_word : ℕ → ℕ → ℕ
 ticket_word requests releases = requests * half_word + releases

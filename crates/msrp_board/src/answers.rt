@@ -1,30 +1,30 @@
-//! What a board answers.
+//! The board's answers and refusals.
 
 use std::alloc::AllocError;
 use thiserror::Error;
 
-/// A request was made.
+/// A request's answer.
 #[derive(Clone, Copy, Debug, PartialEq, Eq)]
 pub struct Asked {
-    /// How many requests and releases of the resource stood before it.
+    /// The number of requests and releases of the resource before it.
     pub place: u32,
-    /// How many requests stood before it and were not yet released. With none the resource is granted.
+    /// The number of earlier requests not yet released. If 0, the resource is granted.
     pub ahead: u32,
 }
 
-/// A request that waits was looked at.
+/// A poll's answer.
 #[derive(Clone, Copy, Debug, PartialEq, Eq)]
 pub struct Polled {
-    /// How many requests and releases of the resource stood before it.
+    /// The number of requests and releases of the resource before it.
     pub place: u32,
     /// Whether the resource is granted.
     pub granted: bool,
 }
 
-/// What a core finds at the barrier.
+/// What a core sees at the barrier.
 #[derive(Clone, Copy, Debug, PartialEq, Eq)]
 pub enum Look {
-    /// Not every core has arrived from the tick before, or the run has not begun.
+    /// Some core hasn't arrived from the tick before, or the run hasn't begun.
     Wait,
     /// The core is let into its tick.
     Go,
@@ -32,7 +32,7 @@ pub enum Look {
     Stopped,
 }
 
-/// Where a core's seat stands.
+/// The state of a core's seat.
 #[derive(Clone, Copy, Debug, PartialEq, Eq)]
 pub enum SeatPhase {
     /// It waits for its tick.
@@ -41,7 +41,7 @@ pub enum SeatPhase {
     Admitted,
     /// It has arrived from the last tick.
     Done,
-    /// It was told that the run is off.
+    /// It saw that the run was called off.
     Stopped,
 }
 
@@ -50,10 +50,10 @@ pub enum SeatPhase {
 pub enum BoardError {
     /// Cores not 1 to [`MOST_CORES`](msrp_plan::limits::MOST_CORES), more resources than
     /// [`MOST_RESOURCES`](msrp_plan::limits::MOST_RESOURCES), or ticks not 1 to
-    /// [`MOST_TICKS`](msrp_plan::limits::MOST_TICKS). This is judged before memory.
+    /// [`MOST_TICKS`](msrp_plan::limits::MOST_TICKS). Checked before any allocation.
     #[error("B1: a size of the board is past its limit")]
     B1,
-    /// Memory was refused.
+    /// Out of memory.
     #[error("B2: memory was refused")]
     B2,
 }

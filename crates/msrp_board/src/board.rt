@@ -1,4 +1,4 @@
-//! The board and its calls. None but [`Board::new`] takes memory, and none waits for another thread.
+//! The board and its calls. Only [`Board::new`] allocates, and none waits for another thread.
 ghost use Rattle.std.specs.Prelude.{◌≡◌, ◌<◌, ◌↔◌};
 ghost use Rattle.msrp_plan.specs.Common.{ℕ, Some, IfOk, IsSome};
 ghost use Rattle.msrp_plan.specs.declared.ids.ResId.{ResId};
@@ -27,7 +27,7 @@ use msrp_plan::{CoreId, ResId};
 use std::alloc::Global;
 use std::marker::Model;
 
-/// A ticket word for each resource and the barrier word, which the threads share by `&Board`.
+/// A ticket word for each resource and the barrier word, shared by the threads as `&Board`.
 #[derive(Drop)]
 pub struct Board {
     pub(crate) table: Table<(), View, BoardSize, Tickets, Global>,
@@ -46,8 +46,8 @@ impl Model for Board {
 }
 
 impl Board {
-    /// A board of so many cores, global resources and ticks, and its first seat, which holds an empty book for each
-    /// core and the conductor's. `B1` is judged before memory is asked for.
+    /// A board of these numbers of cores, global resources and ticks, and its first seat, with an
+    /// empty book of each core and the conductor's. `B1` is checked before any allocation.
     pub fn new(
         alloc: Global,
         cores: u32,
@@ -83,15 +83,15 @@ impl Board {
         Ok((Board { table, size }, seat))
     }
 
-    /// How large the board is.
+    /// The board's numbers of cores, resources and ticks.
     pub fn size(&self) -> BoardSize
         ensures { result ≡ self.now.size }
     {
         self.size
     }
 
-    /// Requests the resource for the core of the seat: one `fetch_add` on its ticket word. With none ahead it is
-    /// granted at once (MSRP's request; a first-in-first-out queue).
+    /// Requests the resource for the seat's core: one `fetch_add` on its ticket word. With none
+    /// ahead it is granted at once (POLICY rule 13).
     pub fn ask(&self, seat: &mut BoardSeat, res: ResId) -> Asked
         requires board { seat.old.board ≡ self.now }
         requires res { res.0 < self.now.size.resources }
@@ -109,8 +109,8 @@ impl Board {
         asked
     }
 
-    /// Asks whether the resource that the core of the seat awaits is granted: one `load` of its ticket word. It is
-    /// where the core's ticket is served.
+    /// Polls the resource that the seat's core waits for: one `load` of its ticket word. It is
+    /// granted if the core's ticket is the served one.
     pub fn poll(&self, seat: &mut BoardSeat) -> Polled
         requires board { seat.old.board ≡ self.now }
         requires queued { (g : ResId) × MayAct (Queued g) seat.old }
@@ -136,8 +136,8 @@ impl Board {
         polled
     }
 
-    /// Releases the resource that the core of the seat holds, and answers the place of the release: one `fetch_add`
-    /// on its ticket word.
+    /// Releases the resource that the seat's core holds, by one `fetch_add` on its ticket word, and
+    /// returns the release's place.
     pub fn leave(&self, seat: &mut BoardSeat) -> u32
         requires board { seat.old.board ≡ self.now }
         requires holding { (g : ResId) × MayAct (Holding g) seat.old }
@@ -153,8 +153,8 @@ impl Board {
         word.next + word.serving
     }
 
-    /// Looks whether the core of the seat is let into its tick: one `load` of the barrier word. Go is answered only
-    /// where the conductor opened and every core has arrived from all ticks below, Stopped only where it aborted.
+    /// Looks whether the seat's core is let into its tick, by one `load` of the barrier word. `Go`
+    /// needs the opening and every core's arrival from all earlier ticks, `Stopped` needs an abort.
     pub fn look(&self, seat: &mut BoardSeat) -> Look
         requires board { seat.old.board ≡ self.now }
         requires waiting { IsIn Waiting seat.old }
@@ -180,8 +180,8 @@ impl Board {
         look
     }
 
-    /// Arrives from the tick that the core of the seat is in: one `fetch_add` on the barrier word. The seat then
-    /// waits for the next tick, or is done.
+    /// Arrives from the seat's tick: one `fetch_add` on the barrier word. The seat then waits for
+    /// the next tick, or is done.
     pub fn arrive(&self, seat: &mut BoardSeat)
         requires board { seat.old.board ≡ self.now }
         requires admitted { IsIn Admitted seat.old }
@@ -204,8 +204,8 @@ impl Board {
         seat.conductor = Some(Conductor::Opened);
     }
 
-    /// Calls the run off before it began: one `fetch_add` on the barrier word. No core is let into tick 0, and each
-    /// that looks is told so.
+    /// Calls the run off before it begins: one `fetch_add` on the barrier word. No core is let into
+    /// tick 0, and each one's next look answers `Stopped`.
     pub fn abort(&self, seat: &mut BoardSeat)
         requires board { seat.old.board ≡ self.now }
         requires unopened { seat.old.conductor ≡ Some Unopened }
@@ -216,7 +216,7 @@ impl Board {
         seat.conductor = Some(Conductor::Aborted);
     }
 
-    /// The core's seat, and one with the other books.
+    /// The core's seat, and a seat with the other books.
     pub fn split(&self, seat: BoardSeat, core: CoreId) -> (BoardSeat, BoardSeat)
         requires board { seat.board ≡ self.now }
         requires book { IsSome (book_at seat core.0) }
@@ -247,8 +247,7 @@ impl Board {
         (own, others)
     }
 
-    /// One seat with the books of both. What they hold is part of a whole board that keeps the rule, as
-    /// [`Board::confirm`] tells.
+    /// One seat with the books of both, which fit a whole board as after [`Board::confirm`].
     pub fn join(&self, seat: BoardSeat, other: BoardSeat) -> BoardSeat
         requires board { (seat.board ≡ self.now) × (other.board ≡ self.now) }
         ensures both { result ≡ both seat other }
@@ -259,7 +258,6 @@ impl Board {
         joined
     }
 
-    // One seat with the books of both.
     fn joined(&self, seat: BoardSeat, other: BoardSeat) -> BoardSeat
         requires board { (seat.board ≡ self.now) × (other.board ≡ self.now) }
         ensures { result ≡ both seat other }
@@ -285,8 +283,8 @@ impl Board {
         }
     }
 
-    /// Confirms that what the seat holds is part of a whole board that keeps the rule: one `load` of the barrier word. So the
-    /// answers in its books, as those of joined seats, stand in one history of each resource, whoever holds the other books.
+    /// Confirms that the seat's books are part of a whole board that obeys the rule, by one `load`
+    /// of the barrier word. So they fit one history of each resource, whoever has the other books.
     pub fn confirm(&self, seat: &mut BoardSeat)
         requires board { seat.old.board ≡ self.now }
         ensures seat { seat.new ≡ seat.old }

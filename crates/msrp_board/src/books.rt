@@ -1,28 +1,28 @@
-//! What the cores did on a board, as contracts tell it. No value of `Entry` or `Book` is ever made: they are what a
-//! seat knows, and take no memory.
+//! What the cores did on a board, for contracts. `Entry` and `Book` are never built: they are the
+//! knowledge of a seat, and take no memory.
 
 use msrp_plan::{Call, ResId};
 use std::collections::LinkedList;
 
-/// A step of a core on the word of a resource.
+/// A core's step on a resource's word.
 pub struct Entry {
-    /// The tick in which it was made.
+    /// The tick of the step.
     pub tick: u32,
     pub res: ResId,
-    /// How many requests and releases of the resource stood before it.
+    /// The number of requests and releases of the resource before it.
     pub place: u32,
     pub call: Call,
 }
 
 /// What a core did on a board.
 pub struct Book {
-    /// The oldest first.
+    /// The oldest entry first.
     pub entries: LinkedList<Entry>,
-    /// How many ticks the core has arrived from, which is the tick that it is in or waits for.
+    /// The number of ticks that the core has arrived from: the tick that it is in or waits for.
     pub tick: u32,
     /// Whether the core was let into that tick.
     pub admitted: bool,
-    /// Whether the core was told that the run is off.
+    /// Whether the core saw that the run was called off.
     pub stopped: bool,
 }
 
@@ -37,7 +37,7 @@ pub enum Conductor {
     Aborted,
 }
 
-/// How large a board is.
+/// The numbers of a board.
 #[derive(Clone, Copy, Debug, PartialEq, Eq)]
 pub struct BoardSize {
     /// 1 to [`MOST_CORES`](msrp_plan::limits::MOST_CORES).

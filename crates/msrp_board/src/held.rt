@@ -1,4 +1,4 @@
-//! What a seat keeps at run time of a core whose book it holds: enough to answer its readers, without the entries.
+//! What a seat stores of a core whose book it has: enough for its readers, without the entries.
 ghost use Rattle.std.specs.Prelude.{◌≡◌, ◌<◌, ◌+◌, ◌-◌};
 ghost use Rattle.msrp_plan.specs.Common.{ℕ, suc, nat_lt};
 ghost use Rattle.msrp_plan.specs.declared.units.Call.TheVariants.{Ask, Poll, Leave};
@@ -13,11 +13,11 @@ use crate::words::{TicketWord, high_half, low_half};
 use msrp_plan::limits::MOST_TICKS;
 use msrp_plan::{Phase, ResId};
 
-/// What a core claims.
+/// What a core holds or waits for.
 #[derive(Clone, Copy, Drop)]
 pub(crate) enum Claim {
     Nothing,
-    /// It awaits the resource: its ticket isn't served yet.
+    /// It waits for the resource: its ticket isn't served yet.
     Waits { res: u32, ticket: u32 },
     /// It was granted the resource.
     Holds { res: u32, ticket: u32 },
@@ -47,7 +47,7 @@ pub(crate) struct CoreState {
 }
 
 impl CoreState {
-    /// Of an empty book.
+    /// The state of an empty book.
     pub(crate) const EMPTY: CoreState = CoreState {
         tick: 0,
         claim: Claim::Nothing,
@@ -56,7 +56,7 @@ impl CoreState {
         acted: false,
     };
 
-    /// Where the core stands, on a board of so many ticks.
+    /// The core's phase, on a board of this many ticks.
     pub(crate) fn phase(self, ticks: u32) -> SeatPhase
         ensures { result ≡ phase_by self.stopped self.admitted (nat_lt self.tick ticks) }
     {
@@ -89,7 +89,7 @@ impl CoreState {
         }
     }
 
-    /// After a poll of what it awaits, granted or not.
+    /// After a poll of its resource, granted or not.
     pub(crate) fn with_poll(self, res: u32, ticket: u32, granted: bool) -> CoreState
         requires { self.claim ≡ Claim.Waits res ticket }
         ensures { (b : Page) (p : ℕ) → self ≡ state_of b → result ≡ state_of (page_with_entry res p (Poll granted) b) }
@@ -130,7 +130,7 @@ impl CoreState {
         }
     }
 
-    /// What a look finds, on a board of so many cores, where the barrier word is `found`.
+    /// What a look finds, on a board of this many cores with the barrier word `found`.
     pub(crate) fn finds(self, cores: u32, found: u64) -> Look
         ensures { result ≡ look_of cores found self.tick }
     {
@@ -143,7 +143,7 @@ impl CoreState {
         }
     }
 
-    /// After a look that found this.
+    /// After a look with this answer.
     pub(crate) fn after_look(self, look: Look) -> CoreState
         ensures { (b : Page) (m n : ℕ) → self ≡ state_of b → look ≡ look_of m n b.tick → result ≡ state_of (page_after_look m n b) }
     {

@@ -1,4 +1,4 @@
-//! Laws over the definitions alone.
+//! Laws over the board's definitions. Each function does nothing; its contract is the law.
 ghost use Rattle.std.specs.Prelude.{◌≡◌};
 ghost use Rattle.msrp_plan.specs.Common.{[], map, false};
 ghost use Rattle.atomic_table.specs.Table.{State};
@@ -18,23 +18,24 @@ use crate::books::BoardSize;
 use crate::pages::{Tickets, View};
 use atomic_table::TableRule;
 
-/// Books have but one history of a resource: the list in which requests and releases stand by place, each poll
+/// The books determine each resource's history uniquely: requests and releases by place, each poll
 /// before the step of the place that it read, and polls of one place by tick, then core.
 pub fn history_is_unique()
     ensures { HistoryIsUnique }
 {}
 
-/// At every moment the words and the books of all seats are tied: a state under the rule of the board's table, as callers see it, has
-/// its books shared out among the seats and tied to the words. The table's steps are called under that rule alone, so every step
-/// of every thread keeps it, whatever state of the table it finds.
+/// At every moment the words and the books of all seats are tied: in a state that obeys the table's
+/// rule, the books are shared out among the seats and tied to the words. Every step of every thread
+/// requires the rule and preserves it, so it holds in every state that a step finds.
 pub fn tied_at_every_moment()
     ensures { (board : BoardModel) (state : State (Unit {0}) View) → ⟦<Tickets as TableRule<(), View, BoardSize>>⟧.holds board.size state → AreTied board.size state.words (map (seen_as board) state.views) }
 {}
 
-/// Boards that break one line of the rule each, as wrong calls would: a book that is lost, a place that two requests found, a release
-/// that is counted twice, two cores that are told that none is ahead, a grant of what is held, a poll that tells what an earlier tick found,
-/// a core that acts twice in a tick, an arrival that isn't counted, a stop without an abort, a core that is let in before all have arrived,
-/// a word of a resource that the board lacks, a ninth core, and an abort that isn't counted.
+/// Boards that violate one line of the rule each, as wrong calls would: a lost book, a place that
+/// two requests found, a release counted twice, two cores with none ahead, a grant of a held
+/// resource, a poll that reports an earlier tick, a core that acts twice in a tick, an uncounted
+/// arrival, a stop without an abort, a core let in before all have arrived, a word of a resource
+/// that doesn't exist, a ninth core, an uncounted abort.
 pub fn broken_boards()
     ensures lost_book { ¬ IsTied boards.lost_book }
     ensures shared_ticket { ¬ IsTied boards.shared_ticket }
@@ -51,8 +52,8 @@ pub fn broken_boards()
     ensures lost_abort { ¬ IsTied boards.lost_abort }
 {}
 
-/// Books that break one line of the rule's part on one book each: a tick after the last, a resource that the board lacks, a release at
-/// the place of its request, and a poll without a request.
+/// Books that violate one line of the rule on one book each: a tick after the last, a resource that
+/// doesn't exist, a release at its request's place, and a poll without a request.
 pub fn broken_books()
     ensures late { ¬ IsKept boards.size boards.late }
     ensures undeclared { ¬ IsKept boards.size boards.undeclared }
@@ -60,8 +61,8 @@ pub fn broken_books()
     ensures unasked { ¬ IsKept boards.size boards.unasked }
 {}
 
-/// A core that waits for its tick has not acted in it, and one that waits for tick 0 has done nothing. So a seat that
-/// was just let in may act.
+/// A core that waits for its tick hasn't acted in it; one that waits for tick 0 has done nothing.
+/// So a seat just let in may act.
 pub fn waiting_cores()
     ensures acted { (size : BoardSize) (b : Book) → IsKept size b → phase_in size.ticks b ≡ Waiting → has_acted b ≡ false }
     ensures entries { (size : BoardSize) (b : Book) → IsKept size b → phase_in size.ticks b ≡ Waiting → b.tick ≡ 0 → b.entries ≡ [] }

@@ -1,9 +1,9 @@
-//! The board of a run: one ticket word for each global resource and one barrier word, which the threads of the cores
-//! share without a lock. A request of a resource takes a ticket and tickets are served in their order, as in MSRP (Gai,
-//! Lipari and Di Natale 2001); between two ticks the cores meet at the barrier.
+//! The board of a run, shared by the cores' threads without a lock: a ticket word for each global
+//! resource, and one barrier word. A request takes a ticket, and tickets are served in order, as in
+//! MSRP (Gai, Lipari and Di Natale 2001); between two ticks the cores meet at the barrier.
 //!
-//! A thread steps by a [`BoardSeat`], which holds the books of some cores: what they did. `docs/BOARD.md` explains the
-//! words, the rule that holds of them, and what each call tells.
+//! A thread steps by a [`BoardSeat`], which has the books of some cores: what they did.
+//! `docs/BOARD.md` explains the words, their rule, and what each call promises.
 #![tactic(auto)]
 
 mod answers;

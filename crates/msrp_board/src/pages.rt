@@ -1,12 +1,12 @@
-//! The rule of the board's words: what always holds of the words and of what all seats know, and what each step
-//! tells the seat that makes it. No value of a type here is ever made.
+//! The rule of the board's words: what always holds of the words and of what all seats know, and
+//! what each step adds to its seat's knowledge. No value of these types is ever built.
 
 use crate::books::{BoardSize, Conductor, Entry};
 use atomic_table::{Join, Play, Seat, Shared, Split, TableRule};
 use std::collections::LinkedList;
 use std::marker::{Brand, PhantomData};
 
-/// A core's book as the rule keeps it, which is the newest entry first.
+/// A core's book as the rule has it, the newest entry first.
 pub(crate) struct Page {
     pub(crate) newest: LinkedList<Entry>,
     pub(crate) tick: u32,
@@ -14,7 +14,7 @@ pub(crate) struct Page {
     pub(crate) stopped: bool,
 }
 
-/// What a seat holds: the pages of some cores, by their numbers, and the conductor's, or not.
+/// What a seat has: the pages of some cores, by number, and perhaps the conductor's.
 pub(crate) struct View {
     pub(crate) pages: LinkedList<Option<Page>>,
     pub(crate) conductor: Option<Conductor>,
@@ -58,7 +58,7 @@ impl Play<(), View> for Leaves {
     ghost then = { TellsLeave };
 }
 
-/// Names a number that a step's rule speaks of and its view does not tell: a core, or how many cores there are.
+/// Names a number in a step's rule that its view doesn't have: a core, or the number of cores.
 pub(crate) trait Named {
     ghost use Rattle.std.specs.Prelude.{ℕ};
 
@@ -69,7 +69,7 @@ impl Named for Brand {
     ghost number = { 0 };
 }
 
-/// Names the size of a board, for the same reason.
+/// Names the size of a board, as [`Named`] names a number.
 pub(crate) trait OfSize {
     ghost use Rattle.msrp_board.specs.declared.books.BoardSize.{BoardSize};
 
@@ -80,7 +80,7 @@ impl OfSize for Brand {
     ghost size = { record { cores = 0; resources = 0; ticks = 0 } };
 }
 
-/// Parts the page of core `N` from the others.
+/// Separates the page of core `N` from the others.
 pub(crate) struct Parts<N: Named> {
     core: PhantomData<N>,
 }
@@ -93,7 +93,7 @@ impl<N: Named> Split<View> for Parts<N> {
     ghost right = { view_without N.number };
 }
 
-/// Puts the pages of two seats together.
+/// Joins the pages of two seats.
 pub(crate) struct Both;
 
 impl Join<View> for Both {
@@ -124,7 +124,7 @@ impl<N: Named> Play<(), View> for Looks<N> {
     ghost then = { TellsLook N.number };
 }
 
-/// The step that tells the rule, on a board of size `Z`.
+/// The step that confirms the rule, on a board of size `Z`.
 pub(crate) struct Confirms<Z: OfSize> {
     size: PhantomData<Z>,
 }

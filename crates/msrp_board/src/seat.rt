@@ -1,4 +1,5 @@
-//! What a thread may do on a board: a seat holds the books of some cores, and its readers answer from them.
+//! A thread's right to step on a board: a seat has some cores' books, and its readers answer from
+//! them.
 ghost use Rattle.std.specs.Prelude.{◌≡◌, ◌↔◌, ◌<◌};
 ghost use Rattle.msrp_plan.specs.Common.{ℕ, IsTrue, IsSome};
 ghost use Rattle.msrp_board.specs.declared.books.Book.{Book};
@@ -14,9 +15,9 @@ use crate::states::States;
 use msrp_plan::{CoreId, Phase};
 use std::marker::Model;
 
-/// The right to step on a board as some cores, and as the conductor. Seats are parted and joined by the board
-/// ([`crate::Board::split`], [`crate::Board::join`]); a seat that holds one core's book and nothing else is that
-/// core's seat.
+/// The right to step on a board as some cores, and as the conductor. The board splits and joins
+/// seats ([`crate::Board::split`], [`crate::Board::join`]). A seat with one core's book and nothing
+/// else is that core's seat.
 #[derive(Drop)]
 pub struct BoardSeat {
     pub(crate) table_seat: TableSeat,
@@ -37,7 +38,7 @@ impl Model for BoardSeat {
 }
 
 impl BoardSeat {
-    // What a core's seat keeps of its core.
+    // What a core's seat stores of its core.
     fn state(&self) -> CoreState
         requires { HasCore self.now }
         ensures shows { (c : ℕ) (b : Book) → IsCoreSeat self.now c b → Shows result b }
@@ -46,7 +47,7 @@ impl BoardSeat {
         self.states.own()
     }
 
-    /// Where the core of a core's seat stands.
+    /// The phase of a core's seat.
     pub fn phase(&self) -> SeatPhase
         requires { HasCore self.now }
         ensures value { (c : ℕ) (b : Book) → IsCoreSeat self.now c b → result ≡ phase_in self.now.board.size.ticks b }
@@ -73,7 +74,7 @@ impl BoardSeat {
         self.state().acted
     }
 
-    /// What the core of a core's seat holds or awaits.
+    /// What the core of a core's seat holds or waits for.
     pub fn lock(&self) -> Phase
         requires { HasCore self.now }
         ensures value { (c : ℕ) (b : Book) → IsCoreSeat self.now c b → result ≡ lock_of b }
@@ -82,7 +83,7 @@ impl BoardSeat {
         self.state().claim.phase()
     }
 
-    /// Whether the seat holds the book of this core.
+    /// Whether the seat has the book of this core.
     pub fn has_book(&self, core: CoreId) -> bool
         ensures value { IsTrue result ↔ IsSome (book_at self.now core.0) }
         ensures seat { IsSeat self.now }
@@ -90,7 +91,7 @@ impl BoardSeat {
         self.states.has(core)
     }
 
-    /// What the conductor did, where the seat holds its book.
+    /// What the conductor did, if the seat has its book.
     pub fn conductor(&self) -> Option<Conductor>
         ensures value { result ≡ self.now.conductor }
         ensures seat { IsSeat self.now }

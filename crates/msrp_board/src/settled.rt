@@ -1,4 +1,4 @@
-//! A board that nobody uses any more.
+//! A board after its last use: its words, which the rule now ties to all its books.
 ghost use Rattle.std.specs.Prelude.{◌≡◌, ◌<◌, ◌≤◌, ◌+◌};
 ghost use Rattle.msrp_plan.specs.Common.{ℕ, Some, false, length, slice_get, slice_index};
 ghost use Rattle.std.specs.Mem.Slots.{slots_items, slots_len, IsFull};
@@ -39,8 +39,8 @@ impl Model for Settled {
 }
 
 impl Board {
-    /// Ends the board, where the seat holds all its books. The words and the books then stand under the whole rule,
-    /// and where the conductor opened no core was stopped.
+    /// Ends the board, if the seat has all its books. Words and books obey the whole rule, and if
+    /// the conductor opened, no core was stopped.
     pub fn settle(self, seat: BoardSeat) -> Settled
         requires board { seat.board ≡ self }
         requires all { HasAll seat }
@@ -65,7 +65,7 @@ impl Board {
     }
 }
 
-// The words of so many resources, and the barrier word.
+// The words of this many resources, and the barrier word.
 fn words_of(closed: &Closed<(), Global>, resources: u32) -> [u64; MOST_RESOURCES + 1]
     requires full { IsFull closed.now.words }
     requires size { (slots_len closed.now.words ≡ resources + 1) × (resources ≤ MOST_RESOURCES) }
@@ -80,7 +80,7 @@ fn words_of(closed: &Closed<(), Global>, resources: u32) -> [u64; MOST_RESOURCES
 }
 
 impl Settled {
-    /// How large the board was.
+    /// The board's numbers of cores, resources and ticks.
     pub fn size(&self) -> BoardSize
         ensures value { result ≡ self.now.size }
         ensures tied { IsTied self.now }
@@ -88,7 +88,7 @@ impl Settled {
         self.size
     }
 
-    /// What the ticket word of a resource counted: requests, and releases.
+    /// What a resource's ticket word counted: requests and releases.
     pub fn word(&self, res: ResId) -> (u32, u32)
         requires { res.0 < self.now.size.resources }
         ensures value { result ≡ (high (slice_index self.now.tickets res.0), low (slice_index self.now.tickets res.0)) }

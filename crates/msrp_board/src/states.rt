@@ -1,5 +1,5 @@
-//! The chain in which a seat keeps the states of its cores, one node for each core: a seat is as small as what it keeps. Nodes are
-//! made with the board, and move where seats are parted and joined, so that neither takes memory.
+//! A seat's states of its cores, as a chain with a node for each core, so a seat is as small as its
+//! books. Splitting and joining seats moves the nodes and allocates nothing.
 ghost use Rattle.std.specs.Prelude.{◌≡◌, ◌==◌};
 ghost use Rattle.msrp_plan.specs.Common.{ℕ, not, replicate, Some, IfOk, option_or};
 ghost use Rattle.std.specs.Option.{is_some};
@@ -22,7 +22,8 @@ pub(crate) enum States {
     Of(Box<Kept>),
 }
 
-/// A core, its state, and the states of other cores. Its thread writes the state in each tick: so the state has lines of a cache to itself.
+/// A core, its state, and the other cores' states. Its thread writes the state in each tick, so the
+/// state has its own cache lines.
 #[cycle(states)]
 #[derive(Drop)]
 pub(crate) struct Kept {
@@ -32,7 +33,7 @@ pub(crate) struct Kept {
 }
 
 impl States {
-    /// Of empty books of so many cores.
+    /// The states of this many empty books.
     pub(crate) fn fresh(alloc: Global, cores: u32) -> Result<States, AllocError>
         ensures { IfOk result (λ s. AreStates s (replicate cores (Some empty_page))) }
     {
@@ -59,8 +60,8 @@ impl States {
         }
     }
 
-    /// Changes the state of the core of a core's seat. The chain is written anew with its tag: a seat that is handed on then carries no
-    /// bytes behind the tag that somebody else wrote.
+    /// Changes the state of the core of a core's seat. Rewrites the tag too: so a seat that is
+    /// handed on has no bytes after the tag that another thread wrote.
     pub(crate) fn set_own(&mut self, state: CoreState)
         ensures { self.new ≡ with_own state self.old }
     {
@@ -104,7 +105,7 @@ impl States {
         }
     }
 
-    /// These states and the others, where no core is in both.
+    /// Both chains in one; no core is in both.
     pub(crate) fn and(self, others: States) -> States
         ensures { (d : ℕ) → kept_of result d ≡ option_or (kept_of self d) (kept_of others d) }
     {

@@ -1,4 +1,4 @@
-//! The kinds of step, each one atomic instruction on one word, and how seats are parted and joined.
+//! The steps on a board: each is one atomic instruction on one word, or splits or joins seats.
 ghost use Rattle.std.specs.Prelude.{◌≡◌, ◌+◌, ◌-◌, ◌<◌, ◌==◌, ◌*◌};
 ghost use Rattle.msrp_plan.specs.Common.{Some, [], ℕ};
 ghost use Rattle.msrp_plan.specs.declared.units.Call.TheVariants.{Ask, Poll, Leave};
@@ -16,7 +16,7 @@ use crate::pages::{
 use crate::words::{HIGH_ONE, TicketWord};
 use std::marker::Brand;
 
-/// A request. Answers the ticket word that it found.
+/// A request. Returns the ticket word before it.
 pub(crate) fn ask(words: &Words, seat: &mut TableSeat, res: usize) -> TicketWord
     requires table { seat.old.table_id ≡ words.now.table_id }
     requires res { (res < words.now.key.resources) × (words.now.table_id.words ≡ words.now.key.resources + 1) }
@@ -28,7 +28,7 @@ pub(crate) fn ask(words: &Words, seat: &mut TableSeat, res: usize) -> TicketWord
     TicketWord::of(words.fetch_add::<Asks>(seat, res, HIGH_ONE))
 }
 
-/// A poll of a core that waits with this ticket. Answers the ticket word that it found.
+/// A poll of a core that waits with this ticket. Returns the ticket word.
 pub(crate) fn poll(words: &Words, seat: &mut TableSeat, res: usize, ticket: u32) -> TicketWord
     requires table { seat.old.table_id ≡ words.now.table_id }
     requires res { (res < words.now.key.resources) × (words.now.table_id.words ≡ words.now.key.resources + 1) }
@@ -41,7 +41,7 @@ pub(crate) fn poll(words: &Words, seat: &mut TableSeat, res: usize, ticket: u32)
     TicketWord::of(words.load::<Polls>(seat, res))
 }
 
-/// A release. Answers the ticket word that it found.
+/// A release. Returns the ticket word before it.
 pub(crate) fn leave(words: &Words, seat: &mut TableSeat, res: usize) -> TicketWord
     requires table { seat.old.table_id ≡ words.now.table_id }
     requires res { (res < words.now.key.resources) × (words.now.table_id.words ≡ words.now.key.resources + 1) }
@@ -64,7 +64,7 @@ pub(crate) fn arrive(words: &Words, seat: &mut TableSeat, barrier: usize)
     words.fetch_add::<Arrives>(seat, barrier, 1);
 }
 
-/// A look. Answers the barrier word that it found.
+/// A look. Returns the barrier word.
 pub(crate) fn look(words: &Words, seat: &mut TableSeat, barrier: usize, cores: u32) -> u64
     requires table { seat.old.table_id ≡ words.now.table_id }
     requires barrier { (barrier ≡ words.now.key.resources) × (words.now.table_id.words ≡ words.now.key.resources + 1) }
@@ -88,7 +88,7 @@ fn look_named<N: Named>(words: &Words, seat: &mut TableSeat, barrier: usize, cor
     words.load::<Looks<N>>(seat, barrier)
 }
 
-/// A confirmation: a state under the rule has the seat, and the step changes nothing.
+/// A confirmation: the seat is part of a state that obeys the rule, and nothing changes.
 pub(crate) fn confirm(words: &Words, seat: &mut TableSeat, barrier: usize, size: BoardSize)
     requires table { seat.old.table_id ≡ words.now.table_id }
     requires barrier { (barrier ≡ words.now.key.resources) × (words.now.table_id.words ≡ words.now.key.resources + 1) }
@@ -132,7 +132,7 @@ pub(crate) fn abort(words: &Words, seat: &mut TableSeat, barrier: usize)
     words.fetch_add::<Aborts>(seat, barrier, HIGH_ONE);
 }
 
-/// The seat keeps the page of the core, and the new one has the others.
+/// Leaves the seat the page of the core, and puts the others in a new one.
 pub(crate) fn split(words: &Words, seat: &mut TableSeat, core: usize) -> TableSeat
     requires table { seat.old.table_id ≡ words.now.table_id }
     requires words { 0 < words.now.table_id.words }
@@ -153,7 +153,7 @@ fn split_named<N: Named>(words: &Words, seat: &mut TableSeat, core: usize) -> Ta
     words.split_seat::<Parts<N>>(seat)
 }
 
-/// The seat takes the other's pages.
+/// Moves the other seat's pages into this one.
 pub(crate) fn join(words: &Words, seat: &mut TableSeat, other: TableSeat)
     requires table { (seat.old.table_id ≡ words.now.table_id) × (other.table_id ≡ words.now.table_id) × (other.me.1 ≡ []) }
     requires words { 0 < words.now.table_id.words }

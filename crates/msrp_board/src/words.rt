@@ -1,9 +1,10 @@
-//! The words of a board, each of 64 bits. A ticket word counts requests in its high half and releases in its low half.
-//! The barrier word counts the opening and the arrivals in its low half, and in its high half the abort.
+//! The words of a board, each of 64 bits. A ticket word counts requests in its high half and
+//! releases in its low half. The barrier word counts the abort in its high half, the opening and
+//! the arrivals in its low half.
 ghost use Rattle.std.specs.Prelude.{◌≡◌};
 ghost use Rattle.msrp_board.specs.Words.{high, low};
 
-/// One more in the high half of a word.
+/// Adds one to the high half of a word.
 pub(crate) const HIGH_ONE: u64 = 4_294_967_296;
 
 /// The high half of a word.
@@ -20,12 +21,12 @@ pub(crate) fn low_half(word: u64) -> u32
     (word % HIGH_ONE) as u32
 }
 
-/// What a ticket word counts. The place of a step is the sum of both, as the step found them.
+/// A ticket word's counts. A step's place is the sum of both before it.
 #[derive(Clone, Copy)]
 pub(crate) struct TicketWord {
-    /// Requests, which is also the ticket of the next request.
+    /// Requests: also the ticket of the next request.
     pub(crate) next: u32,
-    /// Releases, which is also the ticket that is served.
+    /// Releases: also the ticket that is served.
     pub(crate) serving: u32,
 }
 

@@ -1,4 +1,4 @@
--- What a call tells: its status, the numbers of what was found, and a text in the caller's buffer.
+-- The result of a call: its status, its numbers, and a text in the caller's buffer.
 use Rattle.std.specs.Prelude.{◌≡◌, ◌↔◌, ◌<◌, ◌≤◌, ◌++◌}
 use Rattle.msrp_plan.specs.Common.{ℕ, Bool, true, false, nat_le, List, [], length, drop, ⊤, Result}
 use Rattle.msrp_plan.specs.declared.faults.Fault.{Fault}
@@ -25,12 +25,12 @@ rule_number A5 = 5
 rule_number A6 = 6
 rule_number A7 = 7
 
--- the exit status of what was found
+-- the exit status of a result
 abbrev pub status_told : Result (Result ⊤ Fault) CliFault → ℕ
 status_told (Ok found) = verdict_status found
 status_told (Err fault) = status_of (Err fault)
 
--- the numbers where nothing is to be told
+-- the numbers of no result
 abbrev pub nothing : MsrpFound
 nothing = record { row = 0; rule = 0; plan_code = 0; trace_code = 0; number = 0 }
 
@@ -42,17 +42,17 @@ numbers_of (Err (Plan code number)) = record nothing { plan_code = code; number 
 numbers_of (Err (Trace code number)) = record nothing { trace_code = code; number = number }
 numbers_of (Err _) = nothing
 
--- both are told of what was found
+-- the numbers and the status are the result's
 pub record Tells (what : Result (Result ⊤ Fault) CliFault) (found : MsrpFound) (status : ℕ) : Type 0 where
   pub numbers : found ≡ numbers_of what
   pub status_is : status ≡ status_told what
 
 -- ---- texts that are too long
--- a text has as many bytes as a source gives at most, or more
+-- a text has more bytes than can be read
 abbrev pub is_long : List ℕ → Bool
 is_long text = nat_le most_bytes (length text)
 
--- want of memory in place of a read or a write that failed
+-- lack of memory in place of a failed read or write
 abbrev pub or_memory : CliFault → CliFault
 or_memory Read = Memory
 or_memory Write = Memory
@@ -62,12 +62,12 @@ abbrev pub unfailed : {A : Type 0} → Result A CliFault → Result A CliFault
 unfailed (Ok made) = Ok made
 unfailed (Err fault) = Err (or_memory fault)
 
--- where a text is too long a read fails, whatever is in it, and else none does
+-- if a text is too long a read fails, whatever is in it; otherwise none does
 abbrev pub told_as : {A : Type 0} → Bool → Result A CliFault → Result A CliFault
 told_as true made = Err Read
 told_as false made = unfailed made
 
--- what was expected was found in rows and is told, with status 5 exactly where a text is too long
+-- the expected result is reported, with status 5 exactly if a text is too long
 pub record Judges (long : Bool) (expected : Result (Result ⊤ Fault) CliFault) (found : MsrpFound) (status : ℕ) : Type 0 where
   pub what : Result (Result ⊤ Fault) CliFault
   pub is : long ≡ false → OrUnread what (what ≡ expected)
@@ -75,29 +75,30 @@ pub record Judges (long : Bool) (expected : Result (Result ⊤ Fault) CliFault) 
   pub too_long : (status ≡ 5) ↔ (long ≡ true)
 
 -- ---- a text in the caller's buffer
--- the text stands in front of the buffer, and behind it the buffer is as before; or it doesn't fit, and the whole buffer is as before
+-- the text is at the front of the buffer, and the rest is unchanged; or it doesn't fit, and nothing
+-- changes
 pub record Puts (text old new : List ℕ) (needed : ℕ) (put : Bool) : Type 0 where
   pub needs : needed ≡ length text
   pub fits : length text ≤ length old → (put ≡ true) × (new ≡ text ++ drop (length text) old)
   pub short : length old < length text → (put ≡ false) × (new ≡ old)
 
--- the text that was made: where a fault is told there is none
+-- the text that was made; with a fault there is none
 abbrev pub text_in : Result Made CliFault → List ℕ
 text_in (Ok made) = made.text.items
 text_in (Err fault) = []
 
--- a text is handed over with the numbers and the status of what was found, or with 6 where it doesn't fit
+-- a text is handed over with the result's numbers and status, or with 6 if it doesn't fit
 pub record HandsOver (what : Result (Result ⊤ Fault) CliFault) (text old new : List ℕ) (needed : ℕ) (found : MsrpFound) (status : ℕ) : Type 0 where
   pub numbers : found ≡ numbers_of what
   pub needs : needed ≡ length text
   pub fits : length text ≤ length old → (status ≡ status_told what) × (new ≡ text ++ drop (length text) old)
   pub short : length old < length text → (status ≡ 6) × (new ≡ old)
 
--- the text that was made is handed over with what was found in its rows
+-- the text that was made is handed over with the verdict on its rows
 abbrev pub Hands : Result Made CliFault → List ℕ → List ℕ → ℕ → MsrpFound → ℕ → Type 0
 Hands made old new needed found status = HandsOver (found_in made) (text_in made) old new needed found status
 
--- what is handed over was made so, with status 5 exactly where a text is too long
+-- the result that is handed over was made so, with status 5 exactly if a text is too long
 pub record Gives {A : Type 0} (what_in : Result A CliFault → Result (Result ⊤ Fault) CliFault) (text_in : Result A CliFault → List ℕ) (long : Bool) (IsMade : Result A CliFault → Type 0)
     (old new : List ℕ) (needed : ℕ) (found : MsrpFound) (status : ℕ) : Type 0 where
   pub made : Result A CliFault
@@ -105,6 +106,6 @@ pub record Gives {A : Type 0} (what_in : Result A CliFault → Result (Result �
   pub hands : HandsOver (what_in (told_as long made)) (text_in (told_as long made)) old new needed found status
   pub too_long : (status ≡ 5) ↔ (long ≡ true)
 
--- a call hands over a text, with what was found in its rows
+-- a call hands over a text, with the verdict on its rows
 abbrev pub Answers : Bool → (Result Made CliFault → Type 0) → List ℕ → List ℕ → ℕ → MsrpFound → ℕ → Type 0
 Answers long IsMade old new needed found status = Gives found_in text_in long IsMade old new needed found status

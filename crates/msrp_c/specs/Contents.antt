@@ -9,7 +9,7 @@ abbrev pub auditor_in : Option Content → Option FedAuditor
 auditor_in (Some (Auditor a)) = Some a
 auditor_in _ = None
 
--- a run whose cores are handed out and joined
+-- a run that hands out its cores and joins them
 abbrev pub open_in : Option Content → Option HostedRunModel
 open_in (Some (Open' r spare cores)) = Some r
 open_in _ = None

@@ -38,7 +38,7 @@ pub record AreGood (plan : PlanModel) (turns : List MsrpRow) (auditor : AuditorM
   pub good : fault_in plan rows ≡ None
   pub few : length rows ≤ plan.cores * plan.ticks
 
--- this is found in the turns; where it isn't good, it is found in them whatever follows
+-- this is found in the turns; if it isn't good, it is found whatever follows
 pub record IsFound (plan : PlanModel) (turns : List MsrpRow) (auditor : AuditorModel) (found : Finding) : Type 0 where
   pub so_far : found ≡ found_so_far plan turns
   pub stays : (found ≡ Ok (Ok tt) → ⊥) → (more : List MsrpRow) → (found ≡ found_so_far plan (turns ++ more)) × (found ≡ found_whole plan (turns ++ more))

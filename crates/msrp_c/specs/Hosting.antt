@@ -1,4 +1,4 @@
--- A run on threads of the caller's: what its calls hand out, join and tell.
+-- A run on the caller's threads: what its calls hand out, join and report.
 use Rattle.std.specs.Prelude.{◌≡◌, ◌⊎◌, ◌<◌, ◌+◌, ◌++◌, ◌∷◌}
 use Rattle.msrp_plan.specs.Common.{ℕ, List, [], Option, Some, None, length, IfSome, IsSomeAnd, log_of, IsRun, PlanModel, Result}
 use Rattle.std.specs.declared.result.Result.TheVariants.{Ok, Err}
@@ -33,7 +33,7 @@ HoldsNewRun plan held = IsSomeAnd (open_in held) (IsNewRun plan)
 abbrev pub one_more_out : HostedRunModel → HostedRunModel
 one_more_out run = record run { handed = run.handed + 1 }
 
--- a core was joined: its turns stand behind those of the cores before it
+-- a core was joined: its turns are added after the other cores'
 abbrev pub with_joined : HostedRunModel → HostedCoreModel → HostedRunModel
 with_joined run core = record run { joined = run.joined ++ core.turns ∷ [] }
 

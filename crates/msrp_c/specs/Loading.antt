@@ -1,4 +1,4 @@
--- A plan that is loaded, or why there is none.
+-- A loaded plan, or why there is none.
 use Rattle.std.specs.Prelude.{◌≡◌}
 use Rattle.msrp_plan.specs.Common.{Result, PlanModel}
 use Rattle.std.specs.declared.result.Result.TheVariants.{Ok, Err}

@@ -1,4 +1,4 @@
--- What is made of a plan, and goes into a handle.
+-- What is made of a plan, and put into a handle.
 use Rattle.std.specs.Prelude.{◌≡◌, ◌↔◌}
 use Rattle.msrp_plan.specs.Common.{ℕ, Bool, Option, Some, None, true, false, Result, PlanModel}
 use Rattle.std.specs.declared.result.Result.TheVariants.{Ok, Err}
@@ -27,7 +27,7 @@ IsHeld IsNew (Ok plan) held (Err fault) = ⊥
 IsHeld IsNew (Err error) held (Ok found) = ⊥
 
 -- ---- a handle
--- wrong use is told, and changes nothing
+-- wrong use is reported, and changes nothing
 pub record IsMisuse (old new : Option Content) (found : MsrpFound) (status : ℕ) : Type 0 where
   pub same : new ≡ old
   pub tells : Tells (Err Usage) found status

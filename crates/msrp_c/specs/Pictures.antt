@@ -1,4 +1,4 @@
--- The picture of a trace, in a style that is named.
+-- The picture of a trace, in the style of a number.
 use Rattle.std.specs.Prelude.{◌≡◌}
 use Rattle.msrp_plan.specs.Common.{ℕ, List, Option, Some, None, Result, PlanModel}
 use Rattle.std.specs.declared.result.Result.TheVariants.{Err}
@@ -11,7 +11,7 @@ use Rattle.msrp_text.specs.declared.reading.TextError.{TextError}
 use Rattle.msrp_engine.specs.Answered.{OrUnread}
 use Rattle.msrp_c.specs.Numbers.{ticks_asked}
 
--- the picture of these ticks in that style; where the number names no style, whatever the texts, it is wrong usage
+-- the picture of these ticks in that style; if the number names no style, wrong usage for any texts
 abbrev pub IsDrawn : Option Style → ℕ → ℕ → Result PlanModel TextError → List (List (List ℕ)) → Result Made CliFault → Type 0
 IsDrawn (Some style) from to expected records made = OrUnread made (IsPictureOf expected records (ticks_asked style from to) made)
 IsDrawn None from to expected records made = made ≡ Err Usage

@@ -1,4 +1,4 @@
--- Rows as numbers, and what is found in them.
+-- Rows as numbers, and the verdict on them.
 use Rattle.std.specs.Prelude.{◌+◌, ◌==◌, if◌then◌else◌}
 use Rattle.msrp_plan.specs.Common.{ℕ, Bool, List, Option, Some, None, option_map, slice_get, map, ⊤, filter_map, prefix_len, option_and_then, Result, PlanModel, fault_in, verdict}
 use Rattle.msrp_plan.specs.declared.faults.Fault.{Fault}
@@ -23,7 +23,7 @@ use Rattle.msrp_trace.specs.declared.faults.TraceFault.TheVariants.{Kind as Unkn
 use Rattle.msrp_c.specs.declared.turns.MsrpRow.{MsrpRow}
 
 -- ---- the parts of a row
--- the greatest number says that there is none
+-- the greatest number means that there is none
 abbrev pub none_number : ℕ
 none_number = 4294967295
 
@@ -66,7 +66,7 @@ abbrev pub row_of_kind : PlanModel → MsrpRow → Option Kind → Result Row Tr
 row_of_kind plan turn None = Err UnknownKind
 row_of_kind plan turn (Some kind) = named_row plan (shaped_row turn kind (job_numbered (numbered turn.task) (numbered turn.job)))
 
--- the row that the numbers tell, or why they are none, in the order of judging
+-- the row of the numbers, or why they aren't one, in the order of the checks
 abbrev pub row_of : PlanModel → MsrpRow → Result Row TraceFault
 row_of plan turn = row_of_kind plan turn (kind_numbered turn.kind)
 
@@ -75,7 +75,7 @@ abbrev pub refusal_at : ℕ → Result Row TraceFault → Option TraceError
 refusal_at number (Ok r) = None
 refusal_at number (Err fault) = Some (At fault number)
 
--- the rows before the first that is none, and why that is none, with its number, counted from 1
+-- the rows before the first that isn't one, and why it isn't, with its number, counted from 1
 unfoldable pub told_in : List (Result Row TraceFault) → Told
 told_in turns = record {
   rows = filter_map result_ok (take_while is_ok turns);
@@ -83,11 +83,12 @@ told_in turns = record {
 }
 
 -- ---- what is found in them
--- a fault of the rows, else the refusal, and else the verdict on a whole trace; of rows so far it is no fault that further ones are missing
+-- a fault of the rows, otherwise the refusal, otherwise the verdict on a whole trace; for rows so
+-- far missing ones are no fault
 abbrev pub finding_in : Bool → PlanModel → Told → Result (Result ⊤ Fault) CliFault
 finding_in so_far plan told = found_first (fault_in plan told.rows) told.refusal (if so_far then None else verdict plan told.rows)
 
--- of a refused plan its refusal is found, whatever the rows
+-- a refused plan has its refusal, whatever the rows
 abbrev pub finding_of_turns : Bool → Result PlanModel TextError → List MsrpRow → Result (Result ⊤ Fault) CliFault
 finding_of_turns so_far (Ok plan) turns = finding_in so_far plan (told_in (map (row_of plan) turns))
 finding_of_turns so_far (Err error) turns = Err (fault_of error)

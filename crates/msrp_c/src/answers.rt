@@ -1,4 +1,4 @@
-//! What a call tells: its status, the numbers of what was found, and a text.
+//! The result of a call: its status, its numbers, and a text in the caller's buffer.
 ghost use Rattle.std.specs.Prelude.{◌≡◌, ◌<◌, ◌||◌};
 ghost use Rattle.msrp_plan.specs.Common.{true, false};
 ghost use Rattle.msrp_c.specs.Answers.{Hands, HandsOver, Puts, Tells, is_long, numbers_of, or_memory, rule_number, status_told, unfailed};
@@ -7,23 +7,23 @@ use msrp_audit::{Fault, Rule};
 use msrp_engine::{CliFault, Made, exit_of};
 use msrp_plan::bytes::BYTE_LIMIT;
 
-/// What a call found. What doesn't apply is 0.
+/// The numbers of a call's result; 0 for those that don't apply.
 #[repr(C)]
 #[derive(Clone, Copy, Debug, PartialEq, Eq)]
 pub struct MsrpFound {
-    /// The first row that breaks a rule, counted from 1.
+    /// The first row that violates a rule, counted from 1.
     pub row: u32,
-    /// The number after A of the lowest rule that it breaks.
+    /// The number after A of the lowest rule that it violates.
     pub rule: u32,
-    /// The number after P of the code by which the plan is refused.
+    /// The number after P of the plan's refusal.
     pub plan_code: u32,
-    /// The number after R of the code by which the trace is refused.
+    /// The number after R of the trace's refusal.
     pub trace_code: u32,
-    /// The record that is refused, counted from 1.
+    /// The refused record, counted from 1.
     pub number: u32,
 }
 
-/// Nothing was found.
+/// No result.
 pub(crate) const NOTHING: MsrpFound = MsrpFound {
     row: 0,
     rule: 0,
@@ -32,13 +32,13 @@ pub(crate) const NOTHING: MsrpFound = MsrpFound {
     number: 0,
 };
 
-/// What was asked for was done.
+/// The call has done its task.
 pub(crate) const GOOD: u32 = 0;
 
 /// The call was wrong.
 pub(crate) const USAGE: u32 = 3;
 
-/// Memory was refused.
+/// Out of memory.
 pub(crate) const MEMORY: u32 = 4;
 
 // A text doesn't fit into the buffer.
@@ -47,17 +47,17 @@ const ROOM: u32 = 6;
 /// It is too early.
 pub(crate) const WAIT: u32 = 7;
 
-/// Nothing is left.
+/// None is left.
 pub(crate) const DONE: u32 = 8;
 
-// The rules are declared by their numbers.
+// The rule's number: rules are declared in order.
 fn rule_number(rule: Rule) -> u32
     ensures { result ≡ rule_number rule }
 {
     rule as u32 + 1
 }
 
-// The exit status of what was found.
+// The exit status of a result.
 fn status_told(what: Result<Result<(), Fault>, CliFault>) -> u32
     ensures { result ≡ status_told what }
 {
@@ -68,7 +68,7 @@ fn status_told(what: Result<Result<(), Fault>, CliFault>) -> u32
     }
 }
 
-// The numbers of what was found.
+// The numbers of a result.
 fn numbers_of(what: Result<Result<(), Fault>, CliFault>) -> MsrpFound
     ensures { result ≡ numbers_of what }
 {
@@ -92,7 +92,7 @@ fn numbers_of(what: Result<Result<(), Fault>, CliFault>) -> MsrpFound
     }
 }
 
-/// Tells what was found in rows.
+/// Writes a result's numbers, and returns its status.
 pub(crate) fn tell(what: Result<Result<(), Fault>, CliFault>, found: &mut MsrpFound) -> u32
     ensures { Tells what found.new result }
 {
@@ -100,22 +100,22 @@ pub(crate) fn tell(what: Result<Result<(), Fault>, CliFault>, found: &mut MsrpFo
     status_told(what)
 }
 
-/// Whether a text has too many bytes to be read.
+/// Whether a text is too long to be read.
 pub(crate) fn is_long(text: &[u8]) -> bool
     ensures { result ≡ is_long text.now }
 {
     text.len() >= BYTE_LIMIT as usize
 }
 
-/// Whether one of two texts has.
+/// Whether one of two texts is too long.
 pub(crate) fn are_long(plan: &[u8], trace: &[u8]) -> bool
     ensures { result ≡ (is_long plan.now || is_long trace.now) }
 {
     is_long(plan) || is_long(trace)
 }
 
-/// What is told of a fault where no text is too long. Then no read of one fails, and a vector takes each text that there is memory for;
-/// were either to fail, want of memory would be told.
+/// The fault of a call whose texts aren't too long. Then no read fails, and a vector takes each
+/// text that memory suffices for; if one failed all the same, it would be reported as memory.
 pub(crate) fn or_memory(fault: CliFault) -> CliFault
     ensures { result ≡ or_memory fault }
 {
@@ -125,7 +125,7 @@ pub(crate) fn or_memory(fault: CliFault) -> CliFault
     }
 }
 
-/// What is told where no text is too long.
+/// The result of a call whose texts aren't too long.
 pub(crate) fn unfailed<T>(made: Result<T, CliFault>) -> Result<T, CliFault>
     ensures { result ≡ unfailed made }
 {
@@ -135,7 +135,7 @@ pub(crate) fn unfailed<T>(made: Result<T, CliFault>) -> Result<T, CliFault>
     }
 }
 
-// Puts a text in front of the buffer, if it fits, and answers whether it does.
+// Copies a text to the front of the buffer if it fits; whether it does.
 fn put_text(made: &[u8], text: &mut [u8], needed: &mut usize) -> bool
     ensures { Puts made.now text.old text.new needed.new result }
 {
@@ -147,7 +147,7 @@ fn put_text(made: &[u8], text: &mut [u8], needed: &mut usize) -> bool
     true
 }
 
-/// Hands a text over, with what was found.
+/// Hands a text over, with the result.
 pub(crate) fn hand_text(
     what: Result<Result<(), Fault>, CliFault>,
     made: &[u8],
@@ -165,7 +165,7 @@ pub(crate) fn hand_text(
     }
 }
 
-/// Hands over the text that was made of rows, or tells why there is none.
+/// Hands over the text that was made of rows, or reports why there is none.
 pub(crate) fn hand_over(
     made: Result<Made, CliFault>,
     text: &mut [u8],

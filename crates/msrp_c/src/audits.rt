@@ -18,7 +18,7 @@ use msrp_plan::bytes::Source;
 use msrp_text::read_plan;
 use std::alloc::Global;
 
-// What is found in a trace of a plan.
+// The verdict on a trace of a plan, or why there is none.
 fn audited(alloc: Global, plan: &[u8], trace: &[u8]) -> Result<Result<(), Fault>, CliFault>
     ensures { OrUnread result (result ≡ finding_of (plan_of (csv_records plan.now)) (csv_records trace.now)) }
 {
@@ -27,7 +27,7 @@ fn audited(alloc: Global, plan: &[u8], trace: &[u8]) -> Result<Result<(), Fault>
     judge_texts(alloc, &mut plan, &mut trace)
 }
 
-/// The verdict on a trace of a plan: 0 for a legal run, 1 for a fault, and 2 where a text is refused.
+/// The verdict on a trace of a plan: 0 for a legal run, 1 for a fault, and 2 if a text is refused.
 #[unsafe(no_mangle)]
 pub extern "C" fn msrp_audit(alloc: Global, plan: &[u8], trace: &[u8], found: &mut MsrpFound) -> u32
     ensures { Judges (is_long plan.now || is_long trace.now) (finding_of (plan_of (csv_records plan.now)) (csv_records trace.now)) found.new result }
@@ -39,7 +39,7 @@ pub extern "C" fn msrp_audit(alloc: Global, plan: &[u8], trace: &[u8], found: &m
     tell(unfailed(what), found)
 }
 
-// What is found in rows of the plan that a text tells.
+// The verdict on rows of a text's plan, or why there is none.
 fn judged(
     alloc: Global,
     plan: &[u8],
@@ -55,8 +55,8 @@ fn judged(
     judge_turns(&plan, &mut auditor, rows, so_far)
 }
 
-/// The verdict on rows that are told as numbers, as [`msrp_audit`] gives it on their text, but that rows are counted from 1. Of rows so
-/// far it is 0 where they are the start of a legal run.
+/// The verdict on rows given as numbers, as [`msrp_audit`] gives it on their text, except that rows
+/// are counted from 1. For `so far` it is 0 if the rows are the start of a legal run.
 #[unsafe(no_mangle)]
 pub extern "C" fn msrp_audit_rows(
     alloc: Global,
@@ -74,7 +74,7 @@ pub extern "C" fn msrp_audit_rows(
     tell(unfailed(what), found)
 }
 
-// The report of a trace, in memory.
+// The report of a trace.
 fn reported(alloc: Global, plan: &[u8], trace: &[u8]) -> Result<Made, CliFault>
     ensures { OrUnread result (IsReportOf (plan_of (csv_records plan.now)) (csv_records trace.now) result) }
 {
@@ -83,7 +83,7 @@ fn reported(alloc: Global, plan: &[u8], trace: &[u8]) -> Result<Made, CliFault>
     report_of_texts(alloc, &mut plan, &mut trace)
 }
 
-/// The text of the report of a trace; where the trace isn't a legal run, its first fault and no text.
+/// The text of the report of a trace; if the trace isn't a legal run, its first fault and no text.
 #[unsafe(no_mangle)]
 pub extern "C" fn msrp_report(
     alloc: Global,

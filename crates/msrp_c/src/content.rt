@@ -1,10 +1,10 @@
-//! What a handle holds.
+//! What a handle has between two calls: an auditor, a run, or a core of a run.
 
 use crate::held::FedAuditor;
 use crate::open_run::OpenRun;
 use msrp_hosted::{HostedCore, SettledRun};
 
-/// What lasts from call to call behind a handle.
+/// What a handle points to.
 #[derive(Drop)]
 #[cycle(held)]
 pub enum Content {

@@ -1,4 +1,4 @@
-//! A handle in the hands of C.
+//! The handles of C: one pointer each, which only this library follows.
 ghost use Rattle.std.specs.Prelude.{◌≡◌};
 ghost use Rattle.std.specs.Coded.{coded_option};
 ghost use Rattle.std.specs.Option.{is_some};
@@ -13,8 +13,7 @@ use std::marker::Model;
 use std::mem::replace;
 use std::ptr::null_mut;
 
-/// What C keeps of an auditor, a run or a core: one pointer, which only this library follows. It is
-/// null if the handle holds nothing.
+/// C's handle of an auditor, a run or a core: one pointer, null if the handle is empty.
 #[repr(C)]
 #[derive(Drop)]
 pub struct MsrpHandle {
@@ -31,7 +30,7 @@ impl Model for MsrpHandle {
 }
 
 impl MsrpHandle {
-    // The pointer loses its type.
+    // Drops the pointer's type.
     fn of(content: Loose<Content, Global>) -> MsrpHandle
         ensures { result.value ≡ Some content.value }
     {
@@ -42,7 +41,7 @@ impl MsrpHandle {
         }
     }
 
-    // The pointer has its type again, unless it is null.
+    // Restores the pointer's type, unless it is null.
     fn into_loose(self) -> Option<Loose<Content, Global>>
         ensures { option_map (λ l. l.value) result ≡ self.value }
     {
@@ -57,7 +56,7 @@ impl MsrpHandle {
         }
     }
 
-    // A handle that holds nothing.
+    // An empty handle.
     fn none(alloc: Global) -> MsrpHandle
         ensures { result.value ≡ None }
     {
@@ -67,14 +66,14 @@ impl MsrpHandle {
         }
     }
 
-    /// A handle that holds this.
+    /// A handle with this content.
     pub(crate) fn held(content: Box<Content, Global>) -> MsrpHandle
         ensures { result.value ≡ Some content.value }
     {
         MsrpHandle::of(Loose::of(content))
     }
 
-    /// What the handle holds; it holds nothing then.
+    /// Takes the content out of the handle.
     pub(crate) fn take(&mut self, alloc: Global) -> Option<Box<Content, Global>>
         ensures taken { option_map (λ content. content.value) result ≡ self.old.value }
         ensures none { self.new.value ≡ None }
@@ -85,7 +84,7 @@ impl MsrpHandle {
         }
     }
 
-    /// Whether the handle holds something.
+    /// Whether the handle isn't empty.
     pub(crate) fn is_used(&mut self, alloc: Global) -> bool
         ensures used { result ≡ is_some self.old.value }
         ensures same { self.new.value ≡ self.old.value }

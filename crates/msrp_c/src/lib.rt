@@ -1,6 +1,7 @@
-//! The engines for C, and so for any language that calls C: texts come as bytes, and go into the caller's buffer.
+//! The engines for C, and any language that calls C: texts are bytes in the caller's buffers.
 //!
-//! No call keeps anything, prints, or starts a thread. The header is `include/msrp.h`, and docs/C.md tells what a caller has to keep.
+//! No call prints, starts a thread, or has global state; only handles last between calls. The
+//! header is `include/msrp.h`, and `docs/C.md` lists what a caller must obey.
 #![tactic(auto)]
 
 ghost use Rattle.std.specs.Prelude.{◌≡◌};
@@ -38,10 +39,10 @@ pub use runs::{msrp_run_core, msrp_run_free, msrp_run_join, msrp_run_new, msrp_r
 pub use turns::MsrpRow;
 pub use whys::{msrp_why, msrp_why_plan};
 
-// The version of the calls, which the header tells too.
+// The version of the calls, also in the header.
 const VERSION: u32 = 1;
 
-/// The version of these calls: a program that was built with the header of another one isn't to call them.
+/// The version of these calls. A program built with another version's header must not call them.
 #[unsafe(no_mangle)]
 pub extern "C" fn msrp_version() -> u32
     ensures { result ≡ 1 }

@@ -1,4 +1,4 @@
-//! Reads a plan for good.
+//! Reads a plan that is never freed, so that handles can borrow it.
 ghost use Rattle.msrp_engine.specs.Answered.{OrUnread};
 ghost use Rattle.msrp_text.specs.Reading.{csv_records, plan_of};
 ghost use Rattle.msrp_c.specs.Loading.{IsLoaded};
@@ -11,7 +11,7 @@ use msrp_plan::bytes::Source;
 use msrp_text::read_plan;
 use std::alloc::Global;
 
-/// The plan of a text, with its levels. They are never freed, so that what borrows them may be kept.
+/// The plan of a text, with its levels. They are never freed, so that handles can borrow them.
 pub(crate) fn load(alloc: Global, text: &[u8]) -> Result<Loaded, CliFault>
     ensures { OrUnread result (IsLoaded (plan_of (csv_records text.now)) result) }
 {

@@ -1,11 +1,11 @@
-//! A box as its pointer.
+//! A box as a pointer that still owns its value, for handles in C.
 ghost use Rattle.std.specs.Prelude.{◌≡◌};
 ghost use Rattle.std_alloc.specs.Box.Ownership.{box_owns};
 
 use std::alloc::Allocator;
 use std::marker::Model;
 
-/// A pointer that owns what it points to, as the box did that it was.
+/// A pointer that owns what it points to, like the box that it was.
 pub(crate) struct Loose<T, A: Allocator> {
     pub(crate) at: *mut T,
     pub(crate) alloc: A,

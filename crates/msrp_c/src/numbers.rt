@@ -1,4 +1,4 @@
-//! The numbers of a row.
+//! The numbers of a row, and of its place on a board, for C.
 ghost use Rattle.std.specs.Prelude.{◌≡◌};
 ghost use Rattle.msrp_c.specs.RowNumbers.{numbers_of_row, or_none_number, place_number};
 

@@ -12,7 +12,7 @@ use msrp_hosted::{HostedCore, HostedRun};
 use msrp_plan::Memory;
 use std::alloc::Global;
 
-/// A run whose cores are handed out and joined.
+/// A run that hands out its cores and joins them.
 #[derive(Drop)]
 #[cycle(held)]
 pub struct OpenRun {
@@ -21,7 +21,7 @@ pub struct OpenRun {
     spare: Vec<Box<Content>>,
 }
 
-// Memory for so many cores.
+// Memory for this many cores.
 fn spare_for(alloc: Global, cores: u32) -> Result<Vec<Box<Content>>, Memory> {
     let mut spare = Vec::with_capacity(alloc, cores as usize)?;
     for _core in 0..cores {
@@ -34,8 +34,7 @@ fn spare_for(alloc: Global, cores: u32) -> Result<Vec<Box<Content>>, Memory> {
 }
 
 impl OpenRun {
-    /// A run of a plan before its first core is handed out. All memory that its turns need is taken
-    /// here.
+    /// A run of a plan before its first core is handed out, with all the memory of its turns.
     pub(crate) fn new(alloc: Global, loaded: Loaded) -> Result<OpenRun, Memory>
         ensures { IfOk result (λ made. IsNewRun loaded.plan.now made.run) }
     {
@@ -44,7 +43,7 @@ impl OpenRun {
         Ok(OpenRun { run, spare })
     }
 
-    /// Hands out the next core, cores rising, or tells by a status why there is none.
+    /// Hands out the next core, in rising order, or returns the status that says why there is none.
     pub(crate) fn next_core(&mut self) -> Result<Box<Content>, u32>
         ensures next { IfOk result (λ core. core_in (Some core.value) ≡ Some (new_core self.old.run)) }
         ensures handed { IfOk result (λ _. self.new.run ≡ one_more_out self.old.run) }
@@ -66,8 +65,7 @@ impl OpenRun {
         }
     }
 
-    /// Joins a core of this run that has ended, cores rising. If it can't be joined it is given
-    /// back.
+    /// Joins a core of this run that has ended, in rising order; otherwise gives it back.
     pub(crate) fn join(&mut self, core: HostedCore<'static>) -> Result<(), HostedCore<'static>>
         requires { IsOfRun self.old.run core }
         ensures joined { IfOk result (λ _. CanJoin self.old.run core.entry × (self.new.run ≡ with_joined self.old.run core.entry)) }
@@ -76,7 +74,7 @@ impl OpenRun {
         self.run.join(core)
     }
 
-    /// The run is settled, if all its cores were joined.
+    /// The run, settled if all its cores were joined.
     pub(crate) fn settled(self) -> Content
         ensures { IsSomeAnd (settled_in (Some result)) (IsSettledBy self.run) ⊎ (open_in (Some result) ≡ Some self.run) }
     {

@@ -1,4 +1,4 @@
-//! What is made of a plan goes into a handle.
+//! Puts what was made of a plan into an empty handle.
 ghost use Rattle.std.specs.Prelude.{◌≡◌, ◌⊎◌};
 ghost use Rattle.msrp_plan.specs.Common.{Some, None, Ok, Err, IfOk, IfErr, IsOkAnd};
 ghost use Rattle.msrp_faults.specs.declared.faults.CliFault.{CliFault};
@@ -9,7 +9,7 @@ use msrp_audit::Fault;
 use msrp_engine::CliFault;
 use std::alloc::Global;
 
-/// What was made goes into a handle that holds nothing.
+/// Puts what was made into an empty handle.
 pub(crate) fn open(
     alloc: Global,
     made: Result<Content, CliFault>,

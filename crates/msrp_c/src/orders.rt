@@ -1,4 +1,4 @@
-//! Orders, versions and styles as numbers.
+//! The numbers by which C names orders, versions and styles.
 ghost use Rattle.std.specs.Prelude.{◌≡◌, ◌⊎◌};
 ghost use Rattle.msrp_plan.specs.Common.{Some, None, IfOk, IfErr};
 ghost use Rattle.msrp_faults.specs.declared.faults.CliFault.{CliFault};
@@ -11,7 +11,7 @@ use msrp_plan::TextVersion;
 use msrp_sim::Order;
 use std::alloc::Global;
 
-/// The order of this number. The list is read at 3 alone.
+/// The order of this number. Only order 3 reads the list.
 pub(crate) fn order_of(alloc: Global, order: u32, cores: &[u32]) -> Result<Order, CliFault>
     ensures named { IfOk result (λ named. turns_named order cores.now ≡ Some (cores_of named)) }
     ensures unnamed { IfErr result (λ fault. ((fault ≡ CliFault.Memory) × (order ≡ 3)) ⊎ ((fault ≡ CliFault.Usage) × (turns_named order cores.now ≡ None))) }

@@ -1,4 +1,4 @@
-//! The picture of a trace.
+//! The picture of a trace, for C.
 ghost use Rattle.std.specs.Prelude.{◌||◌};
 ghost use Rattle.msrp_plan.specs.Common.{Err};
 ghost use Rattle.msrp_text.specs.Reading.{csv_records, plan_of};
@@ -14,7 +14,7 @@ use msrp_plan::bytes::Source;
 use msrp_view_engine::picture_of_texts;
 use std::alloc::Global;
 
-// The picture of a trace, in a style that is named by a number.
+// The picture of a trace, in the style of this number.
 fn drawn(
     alloc: Global,
     plan: &[u8],
@@ -38,8 +38,9 @@ fn drawn(
     picture_of_texts(alloc, &mut plan, &mut trace, asked)
 }
 
-/// The picture of a trace, in plain text at style 0 and in SVG at 1, of the ticks from one on and up to another, which isn't drawn;
-/// with 0 for the latter up to the plan's end, but 200 ticks at most. It is drawn of a trace with a fault too: then the answer is 1.
+/// The picture of a trace, in plain text (style 0) or SVG (1), of the ticks from the first to
+/// before the last; if the last is 0, to the plan's end, at most 200 ticks. A trace with a fault
+/// has one too; the answer is then 1.
 #[unsafe(no_mangle)]
 pub extern "C" fn msrp_view(
     alloc: Global,

@@ -32,7 +32,7 @@ fn run_of(alloc: Global, plan: &[u8], order: &Order, version: TextVersion) -> Re
     }
 }
 
-// The trace of a plan's run in an order and of a version that are named by numbers.
+// The trace of a plan's run in the order and version of these numbers.
 fn simulated(
     alloc: Global,
     plan: &[u8],
@@ -81,8 +81,8 @@ fn own_text(alloc: Global, plan: &[u8]) -> Result<Made, CliFault>
     }
 }
 
-/// The text of the trace of a plan's run on one thread: the cores of each tick rise at order 0, fall at 1, go round at 2, and are
-/// those that are given at 3. Versions are 1 and 2.
+/// The text of the trace of a plan's run on one thread. In each tick the cores rise (order 0), fall
+/// (1), go round (2), or are the given ones (3). Versions are 1 and 2.
 #[unsafe(no_mangle)]
 pub extern "C" fn msrp_sim(
     alloc: Global,

@@ -1,4 +1,4 @@
-//! Rows as numbers, and the verdict on them.
+//! Rows as numbers, for C, and the verdict on them.
 ghost use Rattle.std.specs.Prelude.{◌≡◌};
 ghost use Rattle.msrp_plan.specs.Common.{[], map, option_map, has_shape, may_carry};
 ghost use Rattle.msrp_audit.specs.Audits.{HasFed};
@@ -9,7 +9,7 @@ use msrp_engine::CliFault;
 use msrp_plan::{CoreId, JobId, Kind, Plan, ResId, Row, TaskId};
 use msrp_trace::{TraceError, TraceFault, is_named};
 
-/// A row as numbers. The greatest number, 4294967295, stands where it has no task, job, resource or ahead.
+/// A row as numbers; 4294967295 is used for a missing task, job, resource or ahead.
 #[repr(C)]
 #[derive(Clone, Copy, Debug, PartialEq, Eq)]
 pub struct MsrpRow {
@@ -17,17 +17,17 @@ pub struct MsrpRow {
     pub core: u32,
     /// 0 for idle, 1 run, 2 lock, 3 unlock, 4 take, 5 queue, 6 spin, 7 grant, 8 release.
     pub kind: u32,
-    /// Tasks are numbered from 0 in the order of their declaration.
+    /// Tasks are numbered from 0 in the order of declaration.
     pub task: u32,
     /// The number of the task's job, from 0.
     pub job: u32,
-    /// Resources are numbered from 0 in the order of their declaration.
+    /// Resources are numbered from 0 in the order of declaration.
     pub resource: u32,
-    /// On a queue row how many stood in the queue before its job, if that is known.
+    /// On a queue row the number of jobs that were in the queue, if known.
     pub ahead: u32,
 }
 
-/// The number where there is none.
+/// The number of a missing part.
 pub(crate) const NONE: u32 = 4_294_967_295;
 
 fn numbered(number: u32) -> Option<u32>
@@ -53,7 +53,7 @@ fn kind_numbered(number: u32) -> Option<Kind>
     }
 }
 
-// The job of a task and a number, where there are both or neither.
+// The job of a task and a number, if both are there or neither.
 fn job_numbered(task: Option<u32>, k: Option<u32>) -> Option<Option<JobId>>
     ensures { result ≡ job_numbered task k }
 {
@@ -114,7 +114,7 @@ fn shaped_row(turn: &MsrpRow, kind: Kind) -> Option<Row>
     })
 }
 
-/// The row of these numbers, or why they are none.
+/// The row of these numbers, or why they aren't one.
 pub(crate) fn row_of(plan: &Plan, turn: &MsrpRow) -> Result<Row, TraceFault>
     ensures { result ≡ row_of plan.now turn.now }
 {
@@ -131,7 +131,7 @@ pub(crate) fn row_of(plan: &Plan, turn: &MsrpRow) -> Result<Row, TraceFault>
     }
 }
 
-/// What is found in rows, which are judged as they come. In rows so far it is no fault that further ones are missing.
+/// The verdict on rows, judged one by one. If they are only rows so far, missing ones are no fault.
 pub(crate) fn judge_turns(
     plan: &Plan,
     auditor: &mut Auditor<'_>,
@@ -142,7 +142,7 @@ pub(crate) fn judge_turns(
     requires fed { HasFed auditor.old [] }
     ensures { result ≡ finding_in so_far plan.now (told_in (map (row_of plan.now) turns.now)) }
 {
-    // Read so that the plan is known to be an accepted one, which has few rows.
+    // This read proves that the plan is an accepted one, which has few rows.
     let _accepted = plan.tasks();
     let mut number = 0u32;
     for turn in turns {

@@ -1,4 +1,4 @@
-//! The arguments of a command line: how they are declared, and what the words give them.
+//! The arguments of a command line: how they are declared, and what the parser found for them.
 
 ghost use Rattle.std.specs.Prelude.{◌≡◌};
 ghost use Rattle.msrp_plan.specs.Common.{false, ok_or, option_map, IfOk, Some};
@@ -14,10 +14,10 @@ use clap::{Arg, ArgAction, ArgMatches, Command};
 use msrp_faults::CliFault;
 use std::alloc::{AllocError, Global};
 
-/// The name of the argument that is a plan's path.
+/// The name of the argument for a plan's path.
 pub const PLAN: &str = "PLAN";
 
-/// The name of the argument that is a trace's path.
+/// The name of the argument for a trace's path.
 pub const TRACE: &str = "TRACE";
 
 /// The flag `--name`.
@@ -44,7 +44,7 @@ pub fn valued<'a>(alloc: Global, name: &'a str, value: &'a str, help: &'a str) -
         .help(help)
 }
 
-/// A path that must be given.
+/// A required path.
 pub fn path<'a>(alloc: Global, name: &'a str, help: &'a str) -> Arg<'a>
     ensures rule { rule_of result ≡ argument.wanted name.now }
     ensures own { result.global ≡ false }
@@ -53,7 +53,7 @@ pub fn path<'a>(alloc: Global, name: &'a str, help: &'a str) -> Arg<'a>
     Arg::new(alloc, name).required(true).help(help)
 }
 
-/// The command, if it could be made, with one argument more. So a chain of arguments has one way out.
+/// The command, if it could be made, with one more argument. So a chain of arguments has one exit.
 pub fn with_arg<'a>(
     made: Result<Command<'a>, AllocError>,
     arg: Arg<'a>,
@@ -63,7 +63,7 @@ pub fn with_arg<'a>(
     made?.arg(arg)
 }
 
-/// Whether an argument is given in the words.
+/// Whether an argument is given.
 pub fn is_given(matches: &ArgMatches<'_>, name: &str) -> bool
     ensures { result ≡ argument.is_given name.now (rows_of (found_of matches.now)) }
 {
@@ -77,7 +77,7 @@ pub fn value_of<'a>(matches: &ArgMatches<'a>, name: &str) -> Option<&'a str>
     matches.get_str(name)
 }
 
-// The paths of a plan and a trace, which are not both standard input.
+// The paths of a plan and a trace, unless both are standard input.
 fn both_of<'a>(
     plan: Option<&'a str>,
     trace: Option<&'a str>,
@@ -90,15 +90,15 @@ fn both_of<'a>(
     }
 }
 
-/// The paths of a plan and a trace. It is a usage fault where one isn't given, or both are standard input.
+/// The paths of a plan and a trace. A usage fault if one isn't given, or both are standard input.
 pub fn both_paths<'a>(matches: &ArgMatches<'a>) -> Result<(&'a str, &'a str), CliFault>
     ensures { result_map_both (λ paths. (paths.0.now, paths.1.now)) (λ fault. fault) result ≡ ok_or (paths_of (rows_of (found_of matches.now))) CliFault.Usage }
 {
     both_of(value_of(matches, PLAN), value_of(matches, TRACE))
 }
 
-/// What a fault of the words is: want of memory as such, and usage for all else. None where the words ask for the help, which is
-/// no fault.
+/// The fault of a parser's error: memory for lack of memory, otherwise usage. None for a request
+/// for help, which isn't a fault.
 pub fn fault_of_words(kind: ErrorKind) -> Option<CliFault>
     ensures { result ≡ fault_of_words kind }
 {

@@ -1,4 +1,4 @@
-//! What a text is read from.
+//! What a path opens: a file, or standard input for `-`.
 
 ghost use Rattle.std.specs.Prelude.{◌≡◌, ◌↔◌};
 ghost use Rattle.msrp_plan.specs.Common.{codes, IfErr, IfOk, true};
@@ -30,8 +30,8 @@ impl Read for Input {
     }
 }
 
-/// The input of a path: `-` is standard input. What can't be opened is a read fault, and so is a closed standard input, which a
-/// read of nothing tells.
+/// Opens a path; `-` is standard input. A file that can't be opened is a read fault, and so is a
+/// closed standard input, which an empty read detects.
 pub fn open(rt: &HostRuntime, path: &str) -> Result<Input, CliFault>
     ensures input { IfOk result (λ input. (is_standard input ≡ true) ↔ (path.now ≡ codes "-")) }
     ensures fault { IfErr result (λ fault. fault ≡ CliFault.Read) }
@@ -49,8 +49,8 @@ pub fn open(rt: &HostRuntime, path: &str) -> Result<Input, CliFault>
     }
 }
 
-/// The inputs of a plan and a trace, each as `open` gives it. Standard input goes first: were it closed, a file that is opened before
-/// would take its number, and be read in its place.
+/// Opens a plan and a trace as `open` does. Standard input goes first: if it were closed, a file
+/// opened before would take its number and be read in its place.
 pub fn open_both(rt: &HostRuntime, plan: &str, trace: &str) -> Result<(Input, Input), CliFault>
     ensures inputs { IfOk result (λ inputs. ((is_standard (inputs.0) ≡ true) ↔ (plan.now ≡ codes "-")) × ((is_standard (inputs.1) ≡ true) ↔ (trace.now ≡ codes "-"))) }
     ensures fault { IfErr result (λ fault. fault ≡ CliFault.Read) }

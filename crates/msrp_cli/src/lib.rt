@@ -1,4 +1,4 @@
-//! What the programs share: the words of the command line and the arguments in them, and what a path opens.
+//! What the programs share: reading the command line, its arguments, and opening paths.
 #![tactic(auto)]
 
 mod arguments;

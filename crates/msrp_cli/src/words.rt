@@ -1,4 +1,4 @@
-//! The words of the command line.
+//! The arguments of the command line as a list of strings.
 
 ghost use Rattle.std.specs.IoError.{error_kind};
 ghost use Rattle.msrp_plan.specs.Common.{IfErr, IfOk};
@@ -10,7 +10,7 @@ use std::env::Args;
 use std::io;
 use std::io::ErrorKind;
 
-// What is answered where the words can't be had: want of memory is told as such, and a word that isn't UTF-8 as usage.
+// The answer if the arguments can't be read: memory for lack of memory; usage if one isn't UTF-8.
 fn unread_words(kind: ErrorKind) -> CliFault
     ensures memory { (result ≡ CliFault.Memory) ↔ (kind ≡ ErrorKind.OutOfMemory) }
     ensures usage { (result ≡ CliFault.Memory) ⊎ (result ≡ CliFault.Usage) }
@@ -21,7 +21,7 @@ fn unread_words(kind: ErrorKind) -> CliFault
     }
 }
 
-// Words in a list. Each is pushed: `collect` goes on where the room that it asks for first is refused.
+// Arguments in a list, pushed one by one: `collect` goes on after its first allocation has failed.
 fn gathered(alloc: Global, args: Args) -> Result<Vec<String>, CliFault>
     ensures { IfErr result (λ fault. fault ≡ CliFault.Memory) }
 {
@@ -32,7 +32,7 @@ fn gathered(alloc: Global, args: Args) -> Result<Vec<String>, CliFault>
     Ok(words)
 }
 
-// The words that were had of the command line, or why none were.
+// The arguments that were read, or why they couldn't be.
 fn words_had(alloc: Global, args: io::Result<Args>) -> Result<Vec<String>, CliFault>
     ensures had { IfOk args (λ _. IfErr result (λ fault. fault ≡ CliFault.Memory)) }
     ensures unread { IfErr args (λ error. IsErrAnd result (λ fault. (fault ≡ CliFault.Memory) ↔ (error_kind error ≡ ErrorKind.OutOfMemory))) }
@@ -44,7 +44,7 @@ fn words_had(alloc: Global, args: io::Result<Args>) -> Result<Vec<String>, CliFa
     }
 }
 
-/// The words of the command line, the program's name first. A word that isn't UTF-8 is a usage fault.
+/// The arguments, the program's name first. One that isn't UTF-8 is a usage fault.
 pub fn words_of(rt: &HostRuntime) -> Result<Vec<String>, CliFault>
     ensures { IfErr result (λ fault. (fault ≡ CliFault.Memory) ⊎ (fault ≡ CliFault.Usage)) }
 {

@@ -1,4 +1,4 @@
--- What is done in a turn, and the rows that tell it.
+-- What a turn does, and the row that says so.
 use Rattle.std.specs.Prelude.{◌≡◌}
 use Rattle.msrp_plan.specs.Common.{ℕ, Option}
 use Rattle.msrp_plan.specs.declared.ids.CoreId.{CoreId}
@@ -15,6 +15,6 @@ pub record IsRowOf (tick : ℕ) (core : CoreId) (job : Option JobId) (action : A
   pub res_is : r.res ≡ action.res
   pub ahead_is : r.ahead ≡ action.ahead
 
--- whatever its tick, such a row is so
+-- rows of this action have the property, in any tick
 abbrev pub EachRowOf : CoreId → Option JobId → Action → (ℕ → Row → Type 0) → Type 0
 EachRowOf core job action P = (tick : ℕ) (r : Row) → IsRowOf tick core job action r → P tick r

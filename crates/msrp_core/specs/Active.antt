@@ -1,5 +1,5 @@
--- The jobs of a core between two of its turns: which are active, that is started and not finished, what each of these
--- holds, and how many of its units it has done.
+-- The jobs of a core between two of its turns: which are active (started and unfinished), what each
+-- of these holds, and how many of its units it has done.
 use Rattle.std.specs.Prelude.{◌∷◌, ◌==◌, ◌&&◌, ◌≡◌, ◌<◌, ◌+◌, if◌then◌else◌}
 use Rattle.msrp_plan.specs.Common.{ℕ, List, [], Bool, true, false, nat_eq, Some, length, take, slice_get, ⊤, list_any, AllByRecursion, Contains, PlanModel, units, held_after, jobs_on, same_job, is_global, JobState}
 use Rattle.msrp_plan.specs.declared.ids.JobId.{JobId}
@@ -10,7 +10,7 @@ use Rattle.msrp_plan.specs.declared.units.Op.TheVariants.{Lock}
 use Rattle.msrp_ready.specs.Ready.{is_among}
 use Rattle.msrp_stack.specs.Stack.{StartedJob}
 
--- a job that is active, the resources that it holds or awaits, the innermost first, and how many units it has done
+-- an active job, the resources that it holds or awaits, the innermost first, and its units done
 pub record ActiveJob : Type 0 where
   pub job : JobId
   pub held : List ℕ
@@ -32,7 +32,7 @@ is_active active j = list_any (λ s. same_job j s.job) active
 abbrev pub is_kept : List ActiveJob → ℕ → Bool
 is_kept active g = list_any (λ s. list_any (nat_eq g) s.held) active
 
--- the units that a started job has done: all of them where it isn't active
+-- the units that a started job has done: all of them if it isn't active
 abbrev pub done_in : PlanModel → List ActiveJob → JobId → ℕ
 done_in plan [] j = length (units plan j)
 done_in plan (s ∷ active) j = if same_job j s.job then s.done else done_in plan active j
@@ -51,19 +51,19 @@ abbrev pub is_newest : List ActiveJob → JobId → Bool
 is_newest [] j = false
 is_newest (s ∷ below) j = same_job j s.job
 
--- how far a job is, by the jobs that were taken to be started, by what the core holds or awaits, and by those that are
--- active, of which the newest alone waits
+-- how far a job is, from the jobs that were started, what the core holds or awaits, and the active
+-- jobs, of which only the newest waits
 abbrev pub state_in : PlanModel → List JobId → Phase → List ActiveJob → JobId → JobState
 state_in plan taken phase active j =
     record { job = j; started = is_among taken j; queued = is_waiting_phase phase && is_newest active j; done = if is_among taken j then done_in plan active j else 0 }
 
--- the newest with one unit more behind it: with its last it is active no more
+-- the newest job has done one more unit: after its last it isn't active
 abbrev pub advanced : PlanModel → List ActiveJob → List ActiveJob
 advanced plan [] = []
 advanced plan (s ∷ below) = if s.done + 1 == length (units plan s.job) then below else record s { done = s.done + 1 } ∷ below
 
--- ---- what is kept between turns
--- a job of the core that was taken, and has a unit left
+-- ---- what holds between turns
+-- a started job of the core that has a unit left
 pub record IsActiveJob (plan : PlanModel) (c : ℕ) (taken : List JobId) (s : ActiveJob) : Type 0 where
   pub known : Contains (jobs_on plan c) s.job
   pub started : is_among taken s.job ≡ true
@@ -93,7 +93,7 @@ pub record HoldsGlobal (plan : PlanModel) (g : ResId) (s : ActiveJob) : Type 0 w
   pub has : list_any (nat_eq g.0) s.held ≡ true
   pub one : (h : ℕ) → list_any (nat_eq h) s.held ≡ true → is_global plan h ≡ true → h ≡ g.0
 
--- its next unit locks this global resource, which counts as held already; the others that it holds are local
+-- its next unit locks this global resource, which already counts as held; its other ones are local
 pub record AwaitsGlobal (plan : PlanModel) (g : ResId) (s : ActiveJob) : Type 0 where
   pub unit : slice_get (units plan s.job) s.done ≡ Some (Lock g)
   pub global : is_global plan g.0 ≡ true
@@ -102,7 +102,7 @@ pub record AwaitsGlobal (plan : PlanModel) (g : ResId) (s : ActiveJob) : Type 0 
   pub now : held_after (take s.done (units plan s.job)) ≡ Some rest
   pub locals : AreLocal plan rest
 
--- what they hold, by what the core holds or awaits: the newest alone may hold or await a global resource
+-- what they hold, by the core's phase: only the newest may hold or await a global resource
 abbrev pub HoldSo : PlanModel → Phase → List ActiveJob → Type 0
 HoldSo plan Free active = AllByRecursion (HoldsLocal plan) active
 HoldSo plan (Queued g) [] = ⊥

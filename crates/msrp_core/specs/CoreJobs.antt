@@ -1,4 +1,4 @@
--- The jobs of a core as they are stored, and what a turn does to them.
+-- The stored jobs of a core, and what a turn does to them.
 use Rattle.std.specs.Prelude.{◌∷◌, ◌&&◌, ◌||◌, ◌≡◌, ◌<◌, ◌≤◌, if◌then◌else◌}
 use Rattle.msrp_plan.specs.Common.{ℕ, List, true, Option, Some, None, nat_lt, Bool, length, reverse, slice_get, vec_capacity, AllByRecursion, Contains, ForSome, PlanModel, units, jobs_on, is_job, level, comes_first, does_unit_after, JobState, state_after, IsPlan}
 use Rattle.msrp_plan.specs.declared.ids.JobId.{JobId}
@@ -13,7 +13,7 @@ use Rattle.msrp_core.specs.Ports.{PortModel, claim_in}
 use Rattle.msrp_core.specs.Active.{ActiveJob, active_of, state_in, is_waiting_phase, HoldSo, AreActive}
 use Rattle.msrp_core.specs.declared.jobs.Jobs.{Jobs}
 
--- how many units the started jobs have done, the newest first; what stands behind these means nothing
+-- how many units the started jobs have done, the newest first; later entries mean nothing
 abbrev pub units_done : Jobs → List ℕ
 units_done jobs = jobs.progress ∷ reverse jobs.below.items
 
@@ -24,12 +24,12 @@ active_in jobs = active_of jobs.stack.started (units_done jobs)
 abbrev pub state_of : Jobs → JobId → JobState
 state_of jobs j = state_in jobs.plan.now jobs.ready.taken jobs.phase (active_in jobs) j
 
--- the head, where it comes before who runs; else none
+-- the head if it comes before the running job; otherwise none
 abbrev pub rising_of : PlanModel → Option JobId → Option JobId → Option JobId
 rising_of plan None running = None
 rising_of plan (Some h) running = if comes_first plan h running then Some h else None
 
--- what is stored of the head and of who runs is right: who rises, and the units of who runs
+-- the stored facts on head and running job are right: who rises, and the running job's units
 pub record IsCurrent (jobs : Jobs) : Type 0 where
   pub rising : jobs.rising ≡ rising_of jobs.plan.now (head jobs.ready) (newest_started jobs.stack.started)
   pub units : ForSome (newest_started jobs.stack.started) (λ j. jobs.units ≡ units jobs.plan.now j)
@@ -39,7 +39,7 @@ pub record AreOfCore (jobs : Jobs) : Type 0 where
   pub first : ForSome (head jobs.ready) (Contains (jobs_on jobs.plan.now jobs.core.0))
   pub started : AllByRecursion (λ s. Contains (jobs_on jobs.plan.now jobs.core.0) s.job) jobs.stack.started
 
--- what is stored of the jobs of a core fits together, with room for all of them
+-- the stored facts on the jobs of a core fit together, with room for all jobs
 pub record AreJobs (jobs : Jobs) : Type 0 where
   pub accepted : IsPlan jobs.plan.now
   pub levels : jobs.levels.now ≡ jobs.plan.now
@@ -52,7 +52,7 @@ pub record AreJobs (jobs : Jobs) : Type 0 where
   pub are : AreActive jobs.plan.now jobs.core.0 jobs.ready.taken jobs.phase (active_in jobs)
   pub current : IsCurrent jobs
 
--- it is preferred to who runs: its level is above the ceiling, and it comes first
+-- the job is preferred to the running one: its level is above the ceiling, and it comes first
 abbrev pub is_preferred : PlanModel → ℕ → JobId → Option JobId → Bool
 is_preferred plan above h s = nat_lt above (level plan h.task.0) && comes_first plan h s
 
@@ -64,7 +64,7 @@ AreToldBy jobs log = AllByRecursion (λ j. state_after log j ≡ state_of jobs j
 abbrev pub started_with : Option JobId → JobState → JobState
 started_with o s = record s { started = s.started || is_job o s.job }
 
--- the same core of the same plan, which holds or awaits the same, with as much room
+-- the plan, its levels, the core and its phase are unchanged
 pub record IsSamePlace (old new : Jobs) : Type 0 where
   pub plan : new.plan ≡ old.plan
   pub levels : new.levels ≡ old.levels
@@ -76,7 +76,7 @@ pub record IsSameStack (old new : Jobs) : Type 0 where
   pub plan : new.stack.plan ≡ old.stack.plan
   pub core : new.stack.core ≡ old.stack.core
 
--- the job is the newest of those that are active
+-- the job is the newest active one
 pub record IsRunning (jobs : Jobs) (job : JobId) : Type 0 where
   pub newest : ActiveJob
   pub below : List ActiveJob
@@ -92,8 +92,8 @@ pub record CanAct (jobs : Jobs) (job : JobId) (op : Op) : Type 0 where
   pub same : newest.job ≡ job
   pub unit : slice_get (units jobs.plan.now job) newest.done ≡ Some op
 
--- the core's claim in the port is what the core holds or awaits, it may make a call more, and the port has the resources of
--- the plan
+-- the core's claim in the port is what the core holds or awaits, it may make another call, and the
+-- port has the plan's resources
 pub record CanCall (jobs : Jobs) (port : PortModel) : Type 0 where
   pub claim : claim_in jobs.core.0 port.calls ≡ jobs.phase
   pub room : 0 < port.rooms jobs.core.0
@@ -112,7 +112,7 @@ pub record Acts (old new : Jobs) (job : JobId) (tick : ℕ) (r : Row) : Type 0 w
   pub states : (j : JobId) → state_of new j ≡ state_with r (state_of old j)
   pub phase : new.phase ≡ phase_with old.phase r.kind r.res
 
--- nobody has the turn: the row is idle, and all stays but for a number that means nothing
+-- no job runs: the row is idle, and nothing changes but a number that means nothing
 pub record Idles (old new : Jobs) (tick : ℕ) (r : Row) : Type 0 where
   pub same : new ≡ record old { progress = new.progress }
   pub active : active_in (record old { progress = new.progress }) ≡ active_in old
@@ -126,7 +126,7 @@ abbrev pub ActsFor : Jobs → Jobs → Option JobId → ℕ → Row → Type 0
 ActsFor old new None tick r = Idles old new tick r
 ActsFor old new (Some job) tick r = Acts old new job tick r
 
--- this is the job's next unit; it is then the newest that is active, with so much held and so many units done
+-- this is the job's next unit; it is then the newest active one, with its resources and units done
 pub record IsNextUnit (jobs : Jobs) (job : JobId) (op : Op) : Type 0 where
   pub accepted : IsPlan jobs.plan.now
   pub levels : jobs.levels.now ≡ jobs.plan.now
@@ -152,7 +152,7 @@ pub record IsIdle (jobs : Jobs) (tick : ℕ) (r : Row) : Type 0 where
   pub row_job : r.job ≡ None
   pub kind : r.kind ≡ Idle
 
--- the row is one of whoever has the turn, whatever a global resource replies
+-- the row is one of the chosen job, if any, whatever a global resource replies
 abbrev pub IsTurnOf : Jobs → Option JobId → ℕ → Row → Type 0
 IsTurnOf jobs None tick r = IsIdle jobs tick r
 IsTurnOf jobs (Some job) tick r = DoesNext jobs job tick r

@@ -1,4 +1,4 @@
--- What decides who has the turn of a core, by the definitions.
+-- What decides which job of a core runs, by the definitions.
 use Rattle.std.specs.Prelude.{◌≡◌, ◌<◌}
 use Rattle.msrp_plan.specs.Common.{ℕ, List, ForSome, IsSomeAnd, None, Option, PlanModel, length, log_of}
 use Rattle.msrp_plan.specs.declared.rows.Row.{Row}
@@ -7,8 +7,7 @@ use Rattle.msrp_plan.specs.Choice as choices
 use Rattle.msrp_plan.specs.Jobs as jobs
 use Rattle.msrp_core.specs.declared.states.CoreState.{CoreState}
 
--- after these rows, in tick t: who runs and how many units that job has done, who is the head, and the
--- current ceiling
+-- after these rows, in tick t: the running job and its units done, the head, and the ceiling
 pub record IsCoreState (plan : PlanModel) (c t : ℕ) (rows : List Row) (s : CoreState) : Type 0 where
   pub running : s.running ≡ choices.running plan c rows
   pub head : s.head ≡ choices.head plan c t rows

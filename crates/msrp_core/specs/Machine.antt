@@ -8,9 +8,9 @@ use Rattle.msrp_plan.specs.declared.units.Phase.{Phase}
 use Rattle.msrp_plan.specs.declared.units.Phase.TheVariants.{Queued}
 use Rattle.msrp_plan.specs.Phases.{phase_after}
 
--- one core of a plan between two turns: the tick of the next one, what the core has to do with the global
--- resources, how far each of its jobs is, and the row of the next turn, where that is known before it is chosen: whatever
--- a port answers, or where its poll is refused again
+-- one core of a plan between two turns: the next turn's tick, what the core has to do with the
+-- global resources, the progress of each job, and the next turn's row if it is known before the
+-- choice: whatever a port answers, or if its poll is refused again
 pub record MachineModel : Type 0 where
   pub plan : PlanModel
   pub core : ℕ
@@ -20,21 +20,21 @@ pub record MachineModel : Type 0 where
   pub again : Option Row
   pub spin : Option Row
 
--- the row that is known so
+-- the known row
 abbrev pub next_known : MachineModel → Option Row
 next_known m = option_or m.again m.spin
 
--- where the row of the next turn is known, it is this one in the next tick
+-- a known row of the next turn is this one, a tick later
 abbrev pub RepeatsOnly : MachineModel → Row → Type 0
 RepeatsOnly m r = IfSome (next_known m) (λ next. next ≡ in_tick m.tick r)
 
--- the rows of this log leave the core as the machine is
+-- the rows of this log leave the core in the machine's state
 pub record StandsAfter (m : MachineModel) (log : List Row) : Type 0 where
   pub tick : m.tick ≡ length log
   pub phase : m.phase ≡ phase_after log
   pub states : m.states ≡ map (state_after log) (jobs_on m.plan m.core)
 
--- the row is a poll in vain of the resource that the core awaits
+-- the row is a poll, not granted, of the resource that the core awaits
 pub record IsRefused (m : MachineModel) (r : Row) : Type 0 where
   pub core : r.core.0 ≡ m.core
   pub res : ResId

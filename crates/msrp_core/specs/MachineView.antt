@@ -1,4 +1,4 @@
--- What a clause sees of a machine, and what its fields keep.
+-- What a clause sees of a machine, and what its fields hold.
 use Rattle.std.specs.Prelude.{◌∷◌, ◌++◌, ◌==◌, ◌≡◌, ◌≤◌, ◌<◌, ◌+◌, if◌then◌else◌}
 use Rattle.msrp_plan.specs.Common.{ℕ, List, [], Some, None, false, map, ForSome, jobs_on, is_queued, IsCoreTurn}
 use Rattle.msrp_plan.specs.declared.rows.Row.{Row}
@@ -14,7 +14,7 @@ abbrev pub machine_view : Inside → MachineModel
 machine_view m =
     record { plan = m.jobs.plan.now; core = m.jobs.core.0; tick = m.tick; phase = m.jobs.phase; states = map (state_of m.jobs) (jobs_on m.jobs.plan.now m.jobs.core.0); again = if m.again == 0 then None else Some (row_again m.tick m.jobs.core m.job); spin = spin_again m.tick m.jobs.core m.poll }
 
--- the last row, which came after pre, stands again so often: nobody is released by then, and its job goes on, which wasn't queued
+-- the last row, after pre, repeats this often: no job is released, and its job, not queued, goes on
 pub record Repeats (m : Inside) : Type 0 where
   pub pre : List Row
   pub row : Row
@@ -29,7 +29,7 @@ pub record Repeats (m : Inside) : Type 0 where
   pub before : since < m.tick
   pub quiet : (t : ℕ) → t < m.tick + m.again → has_release_by m.jobs.ready t ≡ false
 
--- the last row, which came after pre, polled in vain
+-- the last row, after pre, was a poll that wasn't granted
 pub record Spins (m : Inside) (poll : Poll) : Type 0 where
   pub pre : List Row
   pub row : Row
@@ -38,7 +38,7 @@ pub record Spins (m : Inside) (poll : Poll) : Type 0 where
   pub polls : Polls m.jobs row poll
   pub awaits : m.jobs.phase ≡ Queued poll.res
 
--- no job is released yet that comes in a later tick
+-- no job of a later tick is released yet
 pub record IsMachineView (m : Inside) : Type 0 where
   pub jobs_fit : AreJobs m.jobs
   pub released : ForSome m.jobs.ready.tick (λ before. before ≤ m.tick)

@@ -1,4 +1,4 @@
--- Ports: the calls that were made of a port, one call more, and the row that it makes.
+-- Ports: the calls made of a port, one more call, and the row that it makes.
 use Rattle.msrp_plan.specs.Common.{ℕ, List, [], false, true, Some, map, ⊤, PlanModel, is_global, ResCall, claim_after, kind_of_call, ahead_of_call}
 use Rattle.msrp_plan.specs.declared.ids.CoreId.{CoreId}
 use Rattle.msrp_plan.specs.declared.ids.ResId.{ResId}
@@ -11,7 +11,7 @@ use Rattle.msrp_core.specs.declared.port.PortCall.{PortCall}
 use Rattle.msrp_core.specs.declared.port.Reply.{Reply}
 use Rattle.msrp_core.specs.declared.port.Reply.TheVariants.{Taken, Queued}
 
--- a port: the calls that were made of it, oldest first, how many more each core may make, and the number of resources
+-- a port: its calls, the oldest first, each core's room for more, and the number of resources
 pub record PortModel : Type 0 where
   pub calls : List PortCall
   pub rooms : ℕ → ℕ
@@ -36,7 +36,7 @@ calls_on g calls = map core_call (filter (λ e. e.res.0 == g) calls)
 abbrev pub claim_in : ℕ → List PortCall → Phase
 claim_in c calls = claim_after (calls_of c calls)
 
--- the request that is answered so: none is ahead of one that is granted at once
+-- the request with this answer: none is ahead of one that is granted at once
 abbrev pub asked : Reply → Call
 asked Taken = Ask 0
 asked (Queued ahead) = Ask ahead
@@ -46,7 +46,7 @@ abbrev pub HasAhead : Reply → Type 0
 HasAhead Taken = ⊤
 HasAhead (Queued ahead) = 1 ≤ ahead
 
--- one call more of this core and resource: the core has one less to make
+-- one more call of this core and resource: the core may make one less
 pub record Adds (core : CoreId) (res : ResId) (call : Call) (old new : PortModel) : Type 0 where
   pub calls : new.calls ≡ old.calls ++ record { core = core; res = res; call = call } ∷ []
   pub room : new.rooms core.0 + 1 ≡ old.rooms core.0

@@ -1,4 +1,4 @@
-//! What the running job does in its turn: its next unit, or the wait for it.
+//! What the running job does in its turn: its next unit, or one more tick of waiting for it.
 ghost use Rattle.std.specs.Prelude.{◌≡◌};
 ghost use Rattle.msrp_plan.specs.Common.{Some, None, true, false, ForSome, is_global, has_shape, may_carry};
 ghost use Rattle.msrp_plan.specs.declared.ids.ResId.{ResId as Resource};
@@ -11,7 +11,7 @@ use crate::jobs::Jobs;
 use crate::port::{Port, Reply};
 use msrp_plan::{CoreId, JobId, Kind, Op, Phase, ResId, Row};
 
-// What is done in a turn: what its row says beside the tick, the core and the job.
+// What a turn does: its row except for tick, core and job.
 #[derive(Clone, Copy)]
 struct Action {
     kind: Kind,
@@ -19,7 +19,7 @@ struct Action {
     ahead: Option<u32>,
 }
 
-// The row of a turn in which this was done.
+// The row of a turn with this action.
 #[inline(always)]
 fn row_doing(core: CoreId, tick: u32, job: Option<JobId>, action: Action) -> Row
     requires shape { has_shape action.kind job action.res ≡ true }
@@ -36,7 +36,7 @@ fn row_doing(core: CoreId, tick: u32, job: Option<JobId>, action: Action) -> Row
     }
 }
 
-// What is done to a resource, with nobody ahead.
+// An action on a resource, with no ahead.
 #[inline(always)]
 fn action_on(kind: Kind, res: ResId) -> Action
     ensures kind { result.kind ≡ kind }
@@ -70,7 +70,7 @@ pub(crate) fn row_on(core: CoreId, tick: u32, kind: Kind, job: JobId, res: Optio
     }
 }
 
-// The row of a turn that nobody has.
+// The row of a turn in which no job runs.
 pub(crate) fn idle_row(core: CoreId, tick: u32) -> Row
     ensures tick { result.tick ≡ tick }
     ensures core { result.core ≡ core }
@@ -89,7 +89,7 @@ pub(crate) fn idle_row(core: CoreId, tick: u32) -> Row
 }
 
 impl<'a> Jobs<'a> {
-    // Whether the core awaits a global resource.
+    // Whether the core waits for a global resource.
     fn is_waiting(&self) -> bool
         ensures { result ≡ is_waiting_phase self.now.phase }
     {
@@ -106,7 +106,6 @@ impl<'a> Jobs<'a> {
         }
     }
 
-    // A unit of work.
     #[inline(always)]
     fn work(&mut self, job: JobId) -> Action
         requires { CanAct self.old job Op.Run }
@@ -195,7 +194,7 @@ impl<'a> Jobs<'a> {
         }
     }
 
-    // A request of a global resource. In place, so that a port of one turn needs no memory.
+    // A request of a global resource, written in place so that a port for one turn needs no memory.
     #[inline(always)]
     fn request<P: Port>(&mut self, port: &mut P, job: JobId, res: ResId) -> Action
         requires can { CanAct self.old job (Op.Lock res) }
@@ -214,7 +213,7 @@ impl<'a> Jobs<'a> {
         }
     }
 
-    // A poll that is answered yes: the job holds the resource.
+    // A poll answered yes: the job holds the resource.
     #[inline(always)]
     fn granted(&mut self, job: JobId, res: ResId) -> Action
         requires can { CanAct self.old job (Op.Lock res) }
@@ -230,7 +229,7 @@ impl<'a> Jobs<'a> {
         action_on(Kind::Grant, res)
     }
 
-    // A poll that is answered no: the job waits on.
+    // A poll answered no: the job goes on waiting.
     #[inline(always)]
     pub(crate) fn spin(&self, tick: u32, job: JobId, res: ResId) -> Row
         requires can { CanAct self.now job (Op.Lock res) }
@@ -243,7 +242,7 @@ impl<'a> Jobs<'a> {
         row_on(self.core, tick, Kind::Spin, job, Some(res))
     }
 
-    // A poll of the global resource that the job awaits.
+    // A poll of the global resource that the job waits for.
     #[inline(always)]
     fn poll<P: Port>(&mut self, port: &mut P, job: JobId, res: ResId) -> Action
         requires can { CanAct self.old job (Op.Lock res) }
@@ -280,7 +279,7 @@ impl<'a> Jobs<'a> {
         action_on(Kind::Release, res)
     }
 
-    // A release of a global resource, which the port is told.
+    // A release of a global resource, with a call of the port.
     #[inline(always)]
     fn release<P: Port>(&mut self, port: &mut P, job: JobId, res: ResId) -> Action
         requires can { CanAct self.old job (Op.Unlock res) }
@@ -297,7 +296,7 @@ impl<'a> Jobs<'a> {
         self.drop_held(job, res)
     }
 
-    // The next action of the running job: its next unit, or one more tick of the wait for it.
+    // The running job's next action: its next unit, or one more tick of waiting for it.
     #[inline(always)]
     fn act<P: Port>(&mut self, port: &mut P, job: JobId) -> Action
         requires jobs { AreJobs self.old }
@@ -327,7 +326,7 @@ impl<'a> Jobs<'a> {
         }
     }
 
-    // What who was chosen does, or nobody: then the core idles.
+    // The action of the chosen job; with none, the core idles.
     #[inline(always)]
     fn action_of<P: Port>(&mut self, port: &mut P, chosen: Option<JobId>) -> Action
         requires jobs { AreJobs self.old }
@@ -350,7 +349,7 @@ impl<'a> Jobs<'a> {
         }
     }
 
-    /// The turn of who was chosen, or of nobody: then the core idles.
+    /// The turn of the chosen job; with none, the core idles.
     #[inline(always)]
     pub(crate) fn act_chosen<P: Port>(
         &mut self,

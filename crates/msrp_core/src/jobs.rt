@@ -1,4 +1,4 @@
-//! The jobs of a core between two of its turns: which are ready, which are started, and how far these are.
+//! The jobs of a core between two of its turns: the ready and the started ones, and their progress.
 ghost use Rattle.std.specs.Prelude.{◌≡◌, ◌<◌, ◌≤◌, ◌+◌, ◌∷◌};
 ghost use Rattle.msrp_plan.specs.Common.{[], List, Some, None, true, length, IfOk, vec_capacity, ForSome, Contains, units, jobs_on, choice, comes_first};
 ghost use Rattle.msrp_plan.specs.declared.ids.JobId.{JobId as Job};
@@ -16,28 +16,28 @@ use msrp_ready::Ready;
 use msrp_stack::CeilingStack;
 use std::alloc::Global;
 
-/// The jobs of a core. Progress is kept for started jobs alone, beside the stack of them.
+/// The jobs of a core. Only started jobs have a stored progress, next to their stack.
 #[derive(Drop)]
 pub(crate) struct Jobs<'a> {
     pub(crate) plan: &'a Plan,
     pub(crate) levels: &'a Levels<'a>,
     pub(crate) core: CoreId,
-    /// What the core holds or awaits.
+    /// What the core holds or waits for.
     pub(crate) phase: Phase,
     pub(crate) ready: Ready<'a>,
     pub(crate) stack: CeilingStack<'a>,
-    /// How many units the newest of the started jobs has done. Where none is started it means nothing.
+    /// The units that the newest started job has done; without one, any number.
     pub(crate) progress: u32,
-    /// For each started job what that was before it started, the newest last: how many units the job below it has done.
+    /// For each started job the progress of the job below it, the newest last.
     pub(crate) below: Vec<u32>,
-    /// The head, where it comes before who runs; else none. It changes only where a job is released, starts or finishes.
+    /// The head if it comes before the running job. Changes only at a release, start or end.
     pub(crate) rising: Option<JobId>,
-    /// The units of the newest of the started jobs, kept so that its task isn't looked for in each turn.
+    /// The units of the newest started job, so that no turn has to look up its task.
     pub(crate) units: Units<'a>,
 }
 
 impl<'a> Jobs<'a> {
-    /// The jobs of a core before its first turn. All memory that they ever need is taken here.
+    /// The jobs of a core before its first turn, with all the memory that they will ever need.
     pub(crate) fn with_room(
         alloc: Global,
         plan: &'a Plan,
@@ -83,7 +83,7 @@ impl<'a> Jobs<'a> {
         }
     }
 
-    // The head, where it comes before who runs; else none. It is seldom asked for.
+    // The head if it comes before the running job, else none. Rarely needed.
     #[inline(never)]
     fn next_rising(&self) -> Option<JobId>
         requires { AreOfCore self.now }
@@ -95,7 +95,7 @@ impl<'a> Jobs<'a> {
         }
     }
 
-    // Finds anew what is kept of the head and of who runs, where a job has finished.
+    // Recomputes what is stored of the head and of the running job, after a job's end.
     #[inline(never)]
     fn refresh(&mut self)
         requires { AreOfCore self.old }
@@ -125,12 +125,12 @@ impl<'a> Jobs<'a> {
         self.below.push_reserved(self.progress);
         self.progress = 0;
 
-        // The next head comes behind the one that starts.
+        // The next head comes after the job that starts.
         self.rising = None;
         self.units = self.plan.units_of(job.task);
     }
 
-    // Releases the jobs up to this tick. Where none is due, the head stays.
+    // Releases the jobs up to this tick. Without a release the head stays.
     #[inline(always)]
     fn release_to(&mut self, tick: u32)
         requires jobs { AreJobs self.old }
@@ -147,7 +147,8 @@ impl<'a> Jobs<'a> {
         }
     }
 
-    /// The job that has the turn in this tick, or none: the head where it is preferred, which is then started, or else who runs.
+    /// The job that runs in this tick: the head if it is preferred, which then starts, otherwise
+    /// the running job, if any.
     #[inline(always)]
     pub(crate) fn choose(&mut self, tick: u32) -> Option<JobId>
         requires jobs { AreJobs self.old }
@@ -170,14 +171,14 @@ impl<'a> Jobs<'a> {
         }
     }
 
-    // How many units the newest job has done.
+    // The units that the newest job has done.
     pub(crate) fn progress(&self) -> u32
         ensures { (s : ActiveJob) (below : List ActiveJob) → active_in self.now ≡ s ∷ below → result ≡ s.done }
     {
         self.progress
     }
 
-    /// What decides who has the turn in this tick. No job is released by that.
+    /// What decides which job runs in this tick. Releases no job.
     #[inline(always)]
     pub(crate) fn state(&self, tick: u32) -> CoreState
         requires jobs { AreJobs self.now }
@@ -205,7 +206,7 @@ impl<'a> Jobs<'a> {
         self.units.unit(self.progress() as usize)
     }
 
-    /// One unit more for the running job, which is finished with its last.
+    /// Counts a unit of the running job; the last one finishes it.
     #[inline(always)]
     pub(crate) fn advance(&mut self, job: JobId)
         requires running { IsRunning self.old job }
@@ -222,7 +223,7 @@ impl<'a> Jobs<'a> {
         ensures stack { IsSameStack self.old self.new }
         ensures others { self.new ≡ record self.old { stack = self.new.stack; progress = self.new.progress; below = self.new.below; rising = self.new.rising; units = self.new.units } }
     {
-        // Read so that the plan is known to be an accepted one.
+        // This read proves that the plan is an accepted one.
         let _accepted = self.plan.cores();
         let done = self.progress() + 1;
         if done as usize == self.units.len() {

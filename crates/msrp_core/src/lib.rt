@@ -1,7 +1,8 @@
-//! One core of a plan: which job has its turn, and what it does in that tick.
+//! One core of a plan: which job runs, and what it does in that tick.
 //!
-//! A [`Machine`] makes the rows of one core, tick by tick: earliest deadline first under the Stack Resource Policy
-//! (Baker 1991), with global resources under MSRP (Gai, Lipari and Di Natale 2001), which it asks of a [`Port`].
+//! A [`Machine`] makes the rows of one core, tick by tick: earliest deadline first under the Stack
+//! Resource Policy (Baker 1991). Global resources follow MSRP (Gai, Lipari and Di Natale 2001); the
+//! machine asks a [`Port`] for them.
 #![tactic(auto)]
 
 mod actions;

@@ -1,4 +1,4 @@
-//! The machine of one core, which makes the rows of its turns.
+//! The machine of one core: a turn makes a row, without a log of the rows before it.
 ghost use Rattle.std.specs.Prelude.{◌≡◌, ◌<◌, ◌+◌, ◌++◌, ◌∷◌};
 ghost use Rattle.msrp_plan.specs.Common.{[], List, Some, None, IfOk, IfSome, IfNone, length, true, IsSomeAnd, is_global, IsCoreTurn};
 ghost use Rattle.msrp_plan.specs.declared.ids.ResId.{ResId as Resource};
@@ -16,20 +16,20 @@ use msrp_plan::{CoreId, JobId, Kind, Memory, Phase, Plan, ResId, Row};
 use std::alloc::Global;
 use std::marker::Model;
 
-/// One core of a plan between two of its turns: the tick of the next turn, what the core holds or awaits, and how far
-/// each of its jobs is.
+/// One core of a plan between two of its turns: the tick of the next turn, what the core holds or
+/// waits for, and the progress of each job.
 ///
-/// A machine keeps no log. It *stands after* a log where the log's rows leave the core as the machine is:
-/// what a turn promises, it promises for every log that the machine stands after. So the rows of a machine
-/// from its first turn on are the run of its core, whatever its port answers.
+/// A machine stores no log. It *stands after* a log if the log's rows leave the core as the machine
+/// is. A turn's promise holds for every log that the machine stands after. So its rows from the
+/// first turn on are a run of its core, whatever the port answers.
 #[derive(Drop)]
 pub struct Machine<'a> {
     tick: u32,
     jobs: Jobs<'a>,
-    // How often the row of the last turn stands again, and of which job it is.
+    // How many more times the last turn's row repeats, and the row's job.
     again: u32,
     job: Option<JobId>,
-    // The poll of the last turn, if that was in vain.
+    // The last turn's poll, if it wasn't granted.
     poll: Option<Poll>,
 }
 
@@ -46,8 +46,8 @@ impl<'a> Model for Machine<'a> {
 }
 
 impl<'a> Machine<'a> {
-    /// A machine before its first turn. All memory that it ever needs is taken here: it is [`Memory`] only
-    /// where that was refused. The levels are those of the plan.
+    /// A machine before its first turn, with all the memory that it will ever need; [`Memory`] only
+    /// if memory runs out. The levels are the plan's.
     pub fn with_room(
         alloc: Global,
         plan: &'a Plan,
@@ -87,14 +87,14 @@ impl<'a> Machine<'a> {
         self.jobs.core
     }
 
-    /// What the core holds or awaits between two turns.
+    /// What the core holds or waits for between two turns.
     pub fn phase(&self) -> Phase
         ensures { result ≡ self.now.phase }
     {
         self.jobs.phase
     }
 
-    /// What decides who has the core's next turn.
+    /// What decides which job runs next.
     #[inline(always)]
     pub fn state(&self) -> CoreState
         ensures { (log : List TraceRow) → StandsAfter self.now log → IsCoreState self.now.plan self.now.core (length log) log result }
@@ -102,9 +102,9 @@ impl<'a> Machine<'a> {
         self.jobs.state(self.tick)
     }
 
-    /// The core's next turn, where it is known from the last one that its row stands again: the job has work next, or the
-    /// core idles, and no job of the core is released. That takes no choice and no call of a port. Elsewhere it is none, and
-    /// nothing changes.
+    /// The core's next turn if it is known to repeat the last row: the job has work next, or the
+    /// core idles, and no job of the core is released. Needs no choice and no call of a port.
+    /// Otherwise none, and nothing changes.
     #[inline(always)]
     pub fn repeat(&mut self) -> Option<Row>
         ensures none { IfNone result (self.new ≡ self.old) }
@@ -128,7 +128,7 @@ impl<'a> Machine<'a> {
         Some(self.jobs.act_again(tick, self.job))
     }
 
-    /// The resource that the core polled in vain in its last turn, where it did. It polls it again in its next one.
+    /// The resource of the last turn's poll, if that wasn't granted. The next turn polls it again.
     #[inline(always)]
     pub fn polled(&self) -> Option<ResId>
         ensures none { IfNone result (self.now.spin ≡ None) }
@@ -140,9 +140,9 @@ impl<'a> Machine<'a> {
         }
     }
 
-    /// The core's next turn, where its last one was a poll in vain and so is this one: its row is that one in the next tick.
-    /// That takes no choice, whoever is released. Whoever calls it has asked the resource, which refuses. Elsewhere it is none,
-    /// and nothing changes.
+    /// The core's next turn if the last one was a poll that wasn't granted and this one is too: its
+    /// row is the last row, a tick later. Needs no choice, even if jobs are released. The caller
+    /// has asked the resource, which refuses. Otherwise none, and nothing changes.
     #[inline(always)]
     pub fn spin_on(&mut self) -> Option<Row>
         requires tick { self.old.tick < self.old.plan.ticks }
@@ -163,8 +163,8 @@ impl<'a> Machine<'a> {
         Some(self.jobs.spin(now, poll.job, poll.res))
     }
 
-    /// The core's next turn, as by [`Machine::turn`], but it isn't looked first whether its row is known from the last one. Then it is known
-    /// how often its row stands again.
+    /// The core's next turn, as [`Machine::turn`] makes it, without first trying
+    /// [`Machine::repeat`]. Computes how often its row will repeat.
     #[inline(always)]
     pub fn turn_anew<P: Port>(&mut self, port: &mut P) -> Row
         requires tick { self.old.tick < self.old.plan.ticks }
@@ -191,9 +191,9 @@ impl<'a> Machine<'a> {
         row
     }
 
-    /// The core's next turn: the job that has it does its next action, or the core idles. A turn on a global resource
-    /// makes one call of the port, and any other makes none. It never fails, and takes no memory. Whatever log the
-    /// machine stands after, the row is the next one of that log.
+    /// The core's next turn: the job that runs does its next action, or the core idles. A turn on a
+    /// global resource calls the port once, any other doesn't. It never fails and needs no memory.
+    /// The row is the next one of every log that the machine stands after.
     #[inline(always)]
     pub fn turn<P: Port>(&mut self, port: &mut P) -> Row
         requires tick { self.old.tick < self.old.plan.ticks }
@@ -208,7 +208,7 @@ impl<'a> Machine<'a> {
         ensures known { IfSome self.old.again (λ next. result ≡ next) }
         ensures again { RepeatsOnly self.new result }
 
-        // What is asked of the port is the row's own call, and the row has the port's answer.
+        // The call of the port is the row's own, and the row has the port's answer.
         ensures call { (res : Resource) → result.res ≡ Some res → is_global self.old.plan res.0 ≡ true → MakesCall self.old.plan result (P.port port.old) (P.port port.new) }
         ensures quiet { IsQuiet self.old.plan result → port.new ≡ port.old }
         ensures claim { claim_in self.new.core (P.port port.new).calls ≡ self.new.phase }

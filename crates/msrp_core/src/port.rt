@@ -1,4 +1,4 @@
-//! What a core asks of the global resources, whoever answers.
+//! A core's calls of the global resources, for any implementation of them.
 ghost use Rattle.std.specs.Prelude.{◌≡◌, ◌<◌};
 ghost use Rattle.msrp_core.specs.Ports.{Adds, HasAhead, asked, claim_in};
 
@@ -9,11 +9,11 @@ use msrp_plan::{Call, CoreId, Phase, ResId};
 pub enum Reply {
     /// The resource was free: it is granted at once.
     Taken,
-    /// So many are ahead in the queue, one or more.
+    /// This many are ahead in the queue, one or more.
     Queued(u32),
 }
 
-/// A call that a core made of a resource, with its answer.
+/// A call of a core, with its resource and its answer.
 #[derive(Clone, Copy, Debug, PartialEq, Eq)]
 pub struct PortCall {
     pub core: CoreId,
@@ -21,12 +21,12 @@ pub struct PortCall {
     pub call: Call,
 }
 
-/// The place where cores request, poll and release global resources.
+/// Where cores request, poll and release global resources.
 ///
-/// A port has a list of the calls that were made of it, and for each core a room: how many calls the core may
-/// still make. Each call is written down once, with its answer, and takes one of its core's room. Of the
-/// answers only this is promised: somebody is ahead of a request that is queued. That requests are served in
-/// their order is the promise of a port, not of this trait.
+/// A port's model has the list of its calls, and for each core its room: how many more calls the
+/// core may make. Each call is listed once, with its answer, and uses one of its core's room. The
+/// only promise on answers is that a queued request has somebody ahead. First-in-first-out service
+/// is the promise of a particular port, not of this trait.
 pub trait Port {
     ghost use Rattle.std.specs.Prelude.{ℕ};
     ghost use Rattle.msrp_core.specs.Ports.{PortModel};
@@ -42,7 +42,7 @@ pub trait Port {
         ensures call { Adds core res (asked result) (port self.old) (port self.new) }
         ensures ahead { HasAhead result };
 
-    /// A queued core polls the resource that it awaits: is it granted?
+    /// A queued core polls the resource that it waits for: is it granted?
     fn poll(&mut self, core: CoreId, res: ResId) -> bool
         requires room { 0 < (port self.old).rooms core.0 }
         requires queued { claim_in core.0 (port self.old).calls ≡ Phase.Queued res }
@@ -54,7 +54,7 @@ pub trait Port {
         requires holding { claim_in core.0 (port self.old).calls ≡ Phase.Holding res }
         ensures { Adds core res Call.Leave (port self.old) (port self.new) };
 
-    /// How many calls the core may still make.
+    /// How many more calls the core may make.
     fn room(&self, core: CoreId) -> u32
         ensures { result ≡ (port self.now).rooms core.0 };
 

@@ -1,4 +1,5 @@
-//! Turns whose row is the last one again: the running job is in a run of work, or the core idles, and nobody is released.
+//! Turns that repeat the last row: a run of work goes on, or the core idles, and no job is
+//! released.
 ghost use Rattle.std.specs.Prelude.{◌≡◌, ◌<◌, ◌≤◌, ◌+◌, ◌%◌, ◌^◌, ◌∷◌};
 ghost use Rattle.msrp_plan.specs.Common.{[], ℕ, List, Some, None, false, length, ForSome, units, HasWork};
 ghost use Rattle.msrp_ready.specs.Ready.{has_release_by};
@@ -10,7 +11,7 @@ use crate::actions::{idle_row, row_on};
 use crate::jobs::Jobs;
 use msrp_plan::{JobId, Kind, Op, ResId, Row};
 
-/// A job that polled a resource in vain.
+/// A job whose poll of a resource wasn't granted.
 #[derive(Clone, Copy)]
 pub(crate) struct Poll {
     pub(crate) job: JobId,
@@ -18,7 +19,7 @@ pub(crate) struct Poll {
 }
 
 impl<'a> Jobs<'a> {
-    // How many ticks from this one on pass before a job of the core is released, as far as is known.
+    // How many ticks, from this one on, surely pass before a job of the core is released.
     fn quiet_ticks(&self, tick: u32) -> u32
         ensures quiet { (t : ℕ) → 0 < result → t < tick + result → has_release_by self.now.ready t ≡ false }
         ensures within { 0 < result → tick + result ≤ self.now.plan.now.ticks }
@@ -31,7 +32,7 @@ impl<'a> Jobs<'a> {
         next.saturating_sub(tick)
     }
 
-    // How many units of work the running job has next, of at most so many, none of them its last unit.
+    // How many units of work the running job has next, counted up to `most`, without its last unit.
     fn work_left(&self, job: JobId, most: u32) -> u32
         requires jobs { AreJobs self.now }
         requires running { IsRunning self.now job }
@@ -43,7 +44,7 @@ impl<'a> Jobs<'a> {
         (self.units.work(done, most) as usize).min(left) as u32
     }
 
-    /// How many turns more, from this tick on, the row of the last turn stands again, where it was of this kind and job.
+    /// How many more turns, from this tick on, repeat a last row of this kind and job.
     #[inline(always)]
     pub(crate) fn repeats(&self, tick: u32, kind: Kind, job: Option<JobId>) -> u32
         requires { AreJobs self.now }
@@ -60,7 +61,7 @@ impl<'a> Jobs<'a> {
         }
     }
 
-    /// The poll of this row, where it was in vain: its job is the one that runs.
+    /// The poll of this row, if it wasn't granted: its job is the one that runs.
     pub(crate) fn poll_of(&self, row: &Row) -> Option<Poll>
         requires { AreJobs self.now }
         ensures { ForSome result (Polls self.now row.now) }
@@ -73,14 +74,14 @@ impl<'a> Jobs<'a> {
         }
     }
 
-    // One unit more for the running job. Where nobody runs that means nothing, so that nobody asks whether somebody does.
+    // Counts a unit of the running job. If no job runs, the count means nothing.
     fn count(&mut self)
         ensures { self.new ≡ record self.old { progress = (self.old.progress + 1) % 2 ^ 32 } }
     {
         self.progress = self.progress.wrapping_add(1);
     }
 
-    /// A turn whose row is the last one again.
+    /// A turn that repeats the last row.
     #[inline(always)]
     pub(crate) fn act_again(&mut self, tick: u32, job: Option<JobId>) -> Row
         requires jobs { AreJobs self.old }

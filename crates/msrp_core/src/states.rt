@@ -1,15 +1,15 @@
-//! What decides who has the turn of a core.
+//! What decides which job of a core runs, for a reader who asks why a row was refused.
 use msrp_plan::JobId;
 
-/// What decides who has the turn of a core, and how far the job that runs is: what a reader of a refused row wants to know.
+/// What decides which job of a core runs, and the running job's progress.
 #[derive(Clone, Copy, Debug)]
 pub struct CoreState {
-    /// The first of the jobs that are started and not finished.
+    /// The first of the started, unfinished jobs.
     pub running: Option<JobId>,
-    /// The first of the jobs that are released and not started.
+    /// The first of the released jobs that aren't started.
     pub head: Option<JobId>,
     /// The current ceiling of the core.
     pub ceiling: u32,
-    /// How many of its units the job that runs has done; 0 where none runs.
+    /// The units that the running job has done; 0 if none runs.
     pub done: u32,
 }

@@ -11,12 +11,12 @@ abbrev pub verdict_status : Result ⊤ Fault → ℕ
 verdict_status (Ok good) = 0
 verdict_status (Err fault) = 1
 
--- the verdict is written, and its status is answered if the sink took it all
+-- the verdict is written, and the answer is its status if the sink took it all
 pub record TellsVerdict {W : Type 0} (contents : W → Option (List ℕ)) (found : Result ⊤ Fault) (old new : Sink W) (result : Result ℕ CliFault) : Type 0 where
   pub text : Wrote contents old new (verdict_text found)
   pub status : result ≡ if sink_failed new then Err Write else Ok (verdict_status found)
 
--- the answer where that is found: a verdict is written, and of a refusal nothing is
+-- the answer with this finding: a verdict is written; for a refusal nothing is
 abbrev pub AuditAnswers : {W : Type 0} → (W → Option (List ℕ)) → Result (Result ⊤ Fault) CliFault → Sink W → Sink W → Result ℕ CliFault → Type 0
 AuditAnswers contents (Ok found) old new result = TellsVerdict contents found old new result
 AuditAnswers contents (Err fault) old new result = (result ≡ Err fault) × (new ≡ old)

@@ -1,5 +1,5 @@
--- What is told of a plan before it runs, as text: its levels, its ceilings and its tops (Baker 1991; for global resources
--- Gai, Lipari and Di Natale 2001).
+-- The text on a plan before it runs: its levels, its ceilings and its tops (Baker 1991; for global
+-- resources Gai, Lipari and Di Natale 2001).
 use Rattle.std.specs.Prelude.{◌∷◌, ◌++◌, if◌then◌else◌}
 use Rattle.msrp_plan.specs.Common.{ℕ, List, [], codes, decimal, length, slice_index_or, flat_map, range_with_len, PlanModel, task_at, is_global, level, local_ceiling, top}
 use Rattle.msrp_text.specs.PlanText.{record_text}
@@ -8,7 +8,7 @@ use Rattle.msrp_text.specs.PlanText.{record_text}
 abbrev pub level_record : PlanModel → ℕ → List (List ℕ)
 level_record plan t = codes "level" ∷ (task_at plan t).name ∷ decimal (level plan t) ∷ []
 
--- whether a resource is global, and its ceiling; a global one has none of its own, but the top of each core
+-- whether a resource is global, and its ceiling; a global one has none but the top of each core
 abbrev pub ceiling_fields : PlanModel → ℕ → List (List ℕ)
 ceiling_fields plan g = if is_global plan g then codes "global" ∷ codes "-" ∷ [] else codes "local" ∷ decimal (local_ceiling plan g) ∷ []
 

@@ -9,18 +9,18 @@ use Rattle.msrp_trace.specs.declared.faults.TraceError.{TraceError}
 use Rattle.msrp_faults.specs.Outcomes.{fault_of, trace_fault_of}
 use Rattle.msrp_faults.specs.declared.faults.CliFault.{CliFault}
 
--- a fault of the rows that stand comes first, then the refusal that ends them, and else the verdict
+-- a fault of the rows comes first, then the refusal that ends them, otherwise the verdict
 abbrev pub found_first : Option Fault → Option TraceError → Option Fault → Result (Result ⊤ Fault) CliFault
 found_first (Some fault) refusal whole = Ok (Err fault)
 found_first None (Some refusal) whole = Err (trace_fault_of refusal)
 found_first None None whole = Ok (answer_of whole)
 
--- what is found in the rows before the first refused record, and in that refusal
+-- the finding on the rows before the first refused record, and on that refusal
 abbrev pub finding : PlanModel → Told → Result (Result ⊤ Fault) CliFault
 finding plan told = found_first (fault_in plan told.rows) told.refusal (verdict plan told.rows)
 
--- what an audit finds, where the plan's text was answered so and the trace's text has these records: a refused plan
--- is told whatever the trace
+-- the finding of an audit, if the plan's text had this answer and the trace's text has these
+-- records: a refused plan is reported whatever the trace is
 abbrev pub finding_of : Result PlanModel TextError → List (List (List ℕ)) → Result (Result ⊤ Fault) CliFault
 finding_of (Ok plan) records = finding plan (rows_of plan records)
 finding_of (Err error) records = Err (fault_of error)

@@ -1,4 +1,4 @@
--- Words of private functions. No public contract speaks of them.
+-- Definitions for private functions. No public contract uses them.
 pub mod Gathered
 pub mod Known
 pub mod Kept

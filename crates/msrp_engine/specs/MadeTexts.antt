@@ -1,4 +1,4 @@
--- What is found in the rows that a text is made of.
+-- The verdict on the rows of a text.
 use Rattle.msrp_plan.specs.Common.{⊤, Result}
 use Rattle.msrp_plan.specs.declared.faults.Fault.{Fault}
 use Rattle.std.specs.declared.result.Result.TheVariants.{Ok, Err}

@@ -22,7 +22,7 @@ pub record WritesSomeThreadedRun {W : Type 0} (contents : W → Option (List ℕ
   pub well_formed : IsPlan plan
   pub writes : WritesThreadedRun contents version plan old new
 
--- the answer to a text that stands for a plan, or to one that is refused: then nothing is written
+-- the answer to a plan, or to the refusal of its text: then nothing is written
 abbrev pub RunAnswers : {W : Type 0} → (W → Option (List ℕ)) → TextVersion → Result PlanModel TextError → Sink W → Sink W → Result ℕ CliFault → Type 0
 RunAnswers contents version (Ok plan) old new result = WritesThreadedRun contents version plan old new × (result ≡ written_status new)
 RunAnswers contents version (Err error) old new result = (result ≡ Err (fault_of error)) × (new ≡ old)

@@ -1,4 +1,4 @@
--- What a simulation of a plan, and a text of it, write and answer.
+-- What a simulation of a plan, and a text of a plan, write and answer.
 use Rattle.std.specs.Prelude.{◌≡◌}
 use Rattle.msrp_plan.specs.Common.{ℕ, List, Option, Ok, Err, Result, PlanModel, IsOrder, Wrote, IsPlan}
 use Rattle.msrp_plan.specs.declared.rows.Row.{Row}
@@ -26,7 +26,7 @@ pub record WritesSomeRun {W : Type 0} (contents : W → Option (List ℕ)) (vers
   pub is_order : IsOrder plan (cores_of order plan)
   pub writes : WritesRun contents version plan (cores_of order plan) old new
 
--- the text of the plan that a text stands for; one that is refused has none
+-- the text of a plan; a refused one has none
 abbrev pub IsTextOf : (PlanModel → List ℕ) → Result PlanModel TextError → List ℕ → Type 0
 IsTextOf text_of (Ok plan) text = text ≡ text_of plan
 IsTextOf text_of (Err error) text = ⊥
@@ -42,17 +42,17 @@ pub record WritesSomeText {W : Type 0} (contents : W → Option (List ℕ)) (tex
   pub well_formed : IsPlan plan
   pub text : Wrote contents old new (text_of plan)
 
--- what a plan is answered in an order of it, and in a list that is no order of it: then nothing is written
+-- the answer to a plan in an order of it, and in a list that isn't one: then nothing is written
 pub data SimAnswersPlan {W : Type 0} (contents : W → Option (List ℕ)) (version : TextVersion) (plan : PlanModel) (order : List ℕ) (old new : Sink W) (result : Result ℕ CliFault) : Type 0 where
   Simulated : (is : IsOrder plan order) (writes : WritesRun contents version plan order old new) (status : result ≡ written_status new) → SimAnswersPlan contents version plan order old new result
   NoOrder : (isnt : ¬ IsOrder plan order) (usage : result ≡ Err Usage) (silent : new ≡ old) → SimAnswersPlan contents version plan order old new result
 
--- the answer to a text that stands for a plan, or to one that is refused: then nothing is written
+-- the answer to a plan, or to the refusal of its text: then nothing is written
 abbrev pub SimAnswers : {W : Type 0} → (W → Option (List ℕ)) → TextVersion → Order → Result PlanModel TextError → Sink W → Sink W → Result ℕ CliFault → Type 0
 SimAnswers contents version order (Ok plan) old new result = SimAnswersPlan contents version plan (cores_of order plan) old new result
 SimAnswers contents version order (Err error) old new result = (result ≡ Err (fault_of error)) × (new ≡ old)
 
--- the same where such a text of the plan is asked for
+-- the text of an accepted plan is written; a refusal is answered
 abbrev pub TextAnswers : {W : Type 0} → (W → Option (List ℕ)) → (PlanModel → List ℕ) → Result PlanModel TextError → Sink W → Sink W → Result ℕ CliFault → Type 0
 TextAnswers contents text_of (Ok plan) old new result = Wrote contents old new (text_of plan) × (result ≡ written_status new)
 TextAnswers contents text_of (Err error) old new result = (result ≡ Err (fault_of error)) × (new ≡ old)

@@ -1,4 +1,4 @@
-//! The audit of a trace's text, row by row.
+//! The audit of a trace's text: each row is judged as it is read.
 ghost use Rattle.std.specs.Prelude.{◌≡◌, ◌⊎◌};
 ghost use Rattle.msrp_plan.specs.Common.{[], true, Some, Err, IfErr};
 ghost use Rattle.msrp_audit.specs.Audits.{HasFed};
@@ -21,7 +21,7 @@ use msrp_trace::TraceReader;
 use std::alloc::Global;
 use std::io::{Read, Write};
 
-// What is found in the rows that are left. None is read after a faulty one.
+// The verdict on the remaining rows. None is read after a faulty one.
 #[inline(never)]
 fn judge_rows<T: Read>(rows: &mut JudgedRows<'_, '_, T>) -> Result<Result<(), Fault>, CliFault>
     requires { HasFed rows.old.auditor [] }
@@ -38,7 +38,7 @@ fn judge_rows<T: Read>(rows: &mut JudgedRows<'_, '_, T>) -> Result<Result<(), Fa
     }
 }
 
-// What is found in the rows of a trace's text. Whatever ends the reading early may be told as a failed read.
+// The verdict on a trace's text. An early end may be reported as a failed read.
 fn judge_all<T: Read>(
     alloc: Global,
     plan: &Plan,
@@ -56,7 +56,7 @@ fn judge_all<T: Read>(
     found
 }
 
-/// Writes a verdict, and answers its status.
+/// Writes a verdict, and returns its status.
 pub(crate) fn write_verdict<W: Write>(
     out: &mut Sink<W>,
     found: Result<(), Fault>,
@@ -71,11 +71,10 @@ pub(crate) fn write_verdict<W: Write>(
     }
 }
 
-/// The verdict on a trace of a plan, whoever made it: the first row that breaks a rule, counted from 1, with the lowest rule
-/// that it breaks.
+/// The verdict on any trace of a plan: the first row that violates a rule, with the lowest one.
 ///
-/// The rows are judged as they come, and one of each core is kept. So a fault on a row that stands before a refused record is
-/// the answer, and nothing is read after the first fault. A refused plan is told whatever the trace.
+/// Rows are judged as they are read; one of each core is stored. So a faulty row before a refused
+/// record decides, and nothing is read after it. A refused plan is reported for any trace.
 pub fn judge_texts<P: Read, T: Read>(
     alloc: Global,
     plan: &mut Source<P>,
@@ -91,23 +90,22 @@ pub fn judge_texts<P: Read, T: Read>(
     settled(found, trace)
 }
 
-/// Reads a plan and a trace of it, whoever made it, and writes the verdict: `good` for a legal run, and else
-/// `fault,ROW,RULE` with the first row that breaks a rule, counted from 1, and the lowest rule that it breaks. The answer
-/// is the exit status, 0 or 1.
+/// Reads a plan and any trace of it, and writes the verdict: `good` for a legal run, otherwise
+/// `fault,ROW,RULE` with the first row that violates a rule, counted from 1, and the lowest rule
+/// violated. Returns the exit status, 0 or 1.
 ///
-/// The rows are judged as they come, and one of each core is kept. So a fault on a row that stands before a refused record is
-/// the answer, and nothing is read after the first fault. A refused plan is told whatever the trace.
+/// Rows are judged as by [`judge_texts`].
 pub fn audit_text<P: Read, T: Read, W: Write>(
     alloc: Global,
     plan: &mut Source<P>,
     trace: &mut Source<T>,
     out: &mut Sink<W>,
 ) -> Result<u8, CliFault>
-    // Where the readers tell their bytes, and no read failed and no memory was refused, the answer is that to
-    // the plan and the rows that they stand for.
+    // If the readers' bytes are known, no read failed and memory sufficed, the answer is the one
+    // for the plan and the rows in those bytes.
     ensures answer { OfTexts P.remaining T.remaining plan.old trace.old result (λ plan records. AuditAnswers W.contents (finding_of plan records) out.old out.new result) }
 
-    // Whatever the readers tell.
+    // For any readers.
     ensures always { Answered P.remaining (λ fault. is_audit_fault fault ≡ true) plan.old plan.new trace.old trace.new out.old out.new result }
 {
     let found = judge_texts(alloc, plan, trace)?;

@@ -1,4 +1,4 @@
-//! The audit of a trace's text in pieces: the rows are gathered, and then judged side by side.
+//! The audit of a trace's text in pieces: the rows are gathered, then judged in parallel.
 ghost use Rattle.std.specs.Prelude.{◌≡◌, ◌<◌, ◌≤◌};
 ghost use Rattle.msrp_plan.specs.Common.{ℕ, List, [], true, Some, IfErr};
 ghost use Rattle.msrp_audit.specs.Audits.{HasFed};
@@ -25,7 +25,7 @@ use std::alloc::Global;
 use std::io::{Read, Write};
 use std::thread::Threads;
 
-// Gathers the rows that are left, at most so many, and says what ended the reading before.
+// Gathers at most `most` of the remaining rows, and returns what ended the reading early.
 fn gather_rows<T: Read>(
     rows: &mut JudgedRows<'_, '_, T>,
     gathered: &mut Gathered,
@@ -44,14 +44,13 @@ fn gather_rows<T: Read>(
     Ok(())
 }
 
-// Whether the rule is that of a missing row.
 fn is_missing(rule: Rule) -> bool
     ensures { result ≡ is_missing rule }
 {
     matches!(rule, Rule::A6)
 }
 
-// What is found in gathered rows that were judged so. Where a fault ended the reading, none of them is missing.
+// The finding on gathered rows with this verdict. After an early end no row counts as missing.
 fn found_in(
     judged: Result<(), Fault>,
     ended: Result<(), CliFault>,
@@ -75,7 +74,7 @@ fn found_in(
     }
 }
 
-// What is found in the rows of a trace's text. Whatever ends the reading early may be told as a failed read.
+// The verdict on a trace's text. An early end may be reported as a failed read.
 fn judge_all<T: Read>(
     rt: &(impl Threads + Sync),
     alloc: Global,
@@ -85,7 +84,7 @@ fn judge_all<T: Read>(
     ensures found { OfText T.remaining trace.old result (λ records. result ≡ finding plan.now (rows_of plan.now records)) }
     ensures faults { IfErr result (λ fault. is_trace_fault fault ≡ true) }
 {
-    // One row more than are due is a fault, whatever stands behind it.
+    // One row more than a run has is a fault, whatever follows.
     let most = plan.cores() as usize * plan.ticks() as usize + 1;
     let mut gathered = Gathered::with_room(alloc, plan)?;
     let levels = Levels::of(alloc, plan)?;
@@ -98,7 +97,7 @@ fn judge_all<T: Read>(
     found_in(judged, ended)
 }
 
-// The verdict on a trace of a plan, whoever made it.
+// The verdict on any trace of a plan.
 fn judge_texts<P: Read, T: Read>(
     rt: &(impl Threads + Sync),
     alloc: Global,
@@ -115,11 +114,11 @@ fn judge_texts<P: Read, T: Read>(
     settled(found, trace)
 }
 
-/// Reads a plan and a trace of it, whoever made it, and writes the verdict, as [`audit_text`](crate::audit::audit_text) does,
-/// with the same answers. The rows are gathered, at most one more than are due, and judged in pieces, which may run side by side.
+/// Reads a plan and any trace of it, and writes the verdict, with the answers of
+/// [`audit_text`](crate::audit::audit_text). The rows are gathered, at most one more than a run
+/// has, and judged in pieces, which may run in parallel.
 ///
-/// So it may read on after the first fault: but a fault on a row that stands before a refused record or a failed read is the
-/// answer all the same.
+/// So it may read on after the first fault, which still decides.
 pub fn audit_parallel_text<P: Read, T: Read, W: Write>(
     rt: &(impl Threads + Sync),
     alloc: Global,
@@ -127,11 +126,11 @@ pub fn audit_parallel_text<P: Read, T: Read, W: Write>(
     trace: &mut Source<T>,
     out: &mut Sink<W>,
 ) -> Result<u8, CliFault>
-    // Where the readers tell their bytes, and no read failed and no memory was refused, the answer is that to
-    // the plan and the rows that they stand for.
+    // If the readers' bytes are known, no read failed and memory sufficed, the answer is the one
+    // for the plan and the rows in those bytes.
     ensures answer { OfTexts P.remaining T.remaining plan.old trace.old result (λ plan records. AuditAnswers W.contents (finding_of plan records) out.old out.new result) }
 
-    // Whatever the readers tell.
+    // For any readers.
     ensures always { Answered P.remaining (λ fault. is_audit_fault fault ≡ true) plan.old plan.new trace.old trace.new out.old out.new result }
 {
     let found = judge_texts(rt, alloc, plan, trace)?;

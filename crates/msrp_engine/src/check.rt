@@ -1,4 +1,4 @@
-//! What a plan says before it runs: levels, ceilings and tops, from a plan's text to a text.
+//! A plan's levels, ceilings and tops: from its text to a text, before it runs.
 
 ghost use Rattle.std.specs.Prelude.{◌≡◌, ◌<◌};
 ghost use Rattle.msrp_plan.specs.Common.{length, true, IfOk, IfErr, OnOk, Wrote, IsPlan};
@@ -40,7 +40,7 @@ fn write_ceiling<W: Write>(out: &mut Sink<W>, plan: &Plan, levels: &Levels<'_>, 
         out.add(b",global,-\n");
     } else {
         out.field(b"local");
-        // The ceiling of a local resource is the same at each core.
+        // A local resource has the same ceiling at each core.
         out.number(u64::from(levels.ceiling(res, CoreId(0))));
         out.add(b"\n");
     }
@@ -94,7 +94,7 @@ fn write_check<W: Write>(out: &mut Sink<W>, plan: &Plan, levels: &Levels<'_>)
     write_tops(out, plan, levels);
 }
 
-/// The text of a plan's levels and ceilings, in memory.
+/// The text of a plan's levels and ceilings.
 pub(crate) fn levels_text(alloc: Global, plan: &Plan) -> Result<Vec<u8>, CliFault>
     ensures plan { OnOk result (IsPlan plan.now) }
     ensures text { IfOk result (λ text. text.items ≡ check_text plan.now) }
@@ -106,22 +106,22 @@ pub(crate) fn levels_text(alloc: Global, plan: &Plan) -> Result<Vec<u8>, CliFaul
     gathered_text(text)
 }
 
-/// Reads a plan, and writes its levels and ceilings: `level,NAME,N` for each task, `ceiling,NAME,local,N` or
-/// `ceiling,NAME,global,-` for each resource, and `top,CORE,N` for each core, the highest level of its tasks (Baker 1991;
-/// Gai, Lipari and Di Natale 2001).
+/// Reads a plan, and writes its levels and ceilings: `level,NAME,N` for each task,
+/// `ceiling,NAME,local,N` or `ceiling,NAME,global,-` for each resource, and `top,CORE,N` for each
+/// core, the highest level of its tasks (Baker 1991; Gai, Lipari and Di Natale 2001).
 ///
-/// The whole plan is read before anything is written, and all memory is taken before: so whatever the fault, but a write
-/// fault, nothing was written.
+/// The whole plan is read and all memory allocated before the first write: so on any fault but a
+/// write fault, nothing was written.
 pub fn check_text<P: Read, W: Write>(
     alloc: Global,
     plan: &mut Source<P>,
     out: &mut Sink<W>,
 ) -> Result<u8, CliFault>
-    // Where the reader tells its bytes, and no read failed and no memory was refused, the answer is that to
-    // the plan that they stand for.
+    // If the reader's bytes are known, no read failed and memory sufficed, the answer is the one
+    // for the plan in those bytes.
     ensures answer { OfText P.remaining plan.old result (λ records. TextAnswers W.contents check_text (plan_of records) out.old out.new result) }
 
-    // Whatever the reader tells.
+    // For any reader.
     ensures written { OnOk result (WritesSomeText W.contents check_text out.old out.new) }
     ensures always { AnsweredPlan (λ fault. is_sim_fault fault ≡ true) plan.new out.old out.new result }
 {

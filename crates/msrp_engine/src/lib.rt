@@ -1,8 +1,9 @@
 //! The engines: from bytes to bytes, over any reader and writer.
 //!
-//! Each reads a plan, and some a trace of it, and writes one text: a simulation (`sim`), a run on threads (`run`), a verdict (`audit`,
-//! `audit_parallel`), a report (`report`), levels and ceilings (`check`), or the plan's own text (`own_text`). What is answered in place of a
-//! text is a [`CliFault`], and [`exit_of`] gives the exit status of either. Pictures and words on a fault are `msrp_view_engine`'s.
+//! Each reads a plan, and some also a trace of it, and writes one text: a simulation (`sim`), a run
+//! on threads (`run`), a verdict (`audit`, `audit_parallel`), a report (`report`), levels and
+//! ceilings (`check`), or the plan's own text (`own_text`). Otherwise it answers a [`CliFault`];
+//! [`exit_of`] gives the exit status. `msrp_view_engine` makes pictures and explanations.
 #![tactic(auto)]
 
 mod audit;

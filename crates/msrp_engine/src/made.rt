@@ -1,11 +1,11 @@
-//! Texts in memory.
+//! What an engine returns in memory: a text, and a verdict.
 
 use msrp_plan::Fault;
 
-/// A text that an engine made in memory, and the verdict on the rows that it was made of.
+/// A text made in memory, and the verdict on its rows.
 #[derive(Debug, Drop)]
 pub struct Made {
-    /// Of a report it is empty where the rows have a fault.
+    /// The report is empty if the rows have a fault.
     pub text: Vec<u8>,
     pub found: Result<(), Fault>,
 }

@@ -1,4 +1,4 @@
-//! A plan's own text, from any text of it.
+//! A plan's own text: the one text of the plan that `write_plan` makes, from any text of it.
 
 ghost use Rattle.std.specs.Prelude.{◌≡◌};
 ghost use Rattle.msrp_plan.specs.Common.{true, IfOk, IfErr, OnOk, IsPlan};
@@ -16,7 +16,7 @@ use msrp_text::write_plan;
 use std::alloc::Global;
 use std::io::{Read, Write};
 
-/// A plan's own text, in memory.
+/// A plan's own text.
 pub(crate) fn own_text(alloc: Global, plan: &Plan) -> Result<Vec<u8>, CliFault>
     ensures plan { IsPlan plan.now }
     ensures text { IfOk result (λ text. text.items ≡ plan_text plan.now) }
@@ -27,18 +27,18 @@ pub(crate) fn own_text(alloc: Global, plan: &Plan) -> Result<Vec<u8>, CliFault>
     gathered_text(text)
 }
 
-/// Reads a plan, and writes the plan's own text, which reads as the same plan. The whole plan is read before anything is
-/// written, and all memory is taken before: so whatever the fault, but a write fault, nothing was written.
+/// Reads a plan, and writes its own text, which reads as the same plan. The plan is read and memory
+/// allocated before the first write: on any fault but a write fault, nothing was written.
 pub fn plan_text<P: Read, W: Write>(
     alloc: Global,
     plan: &mut Source<P>,
     out: &mut Sink<W>,
 ) -> Result<u8, CliFault>
-    // Where the reader tells its bytes, and no read failed and no memory was refused, the answer is that to
-    // the plan that they stand for.
+    // If the reader's bytes are known, no read failed and memory sufficed, the answer is the one
+    // for the plan in those bytes.
     ensures answer { OfText P.remaining plan.old result (λ records. TextAnswers W.contents plan_text (plan_of records) out.old out.new result) }
 
-    // Whatever the reader tells.
+    // For any reader.
     ensures written { OnOk result (WritesSomeText W.contents plan_text out.old out.new) }
     ensures always { AnsweredPlan (λ fault. is_sim_fault fault ≡ true) plan.new out.old out.new result }
 {

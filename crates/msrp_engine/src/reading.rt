@@ -1,4 +1,4 @@
-//! What ends the reading of a text.
+//! Why the reading of a text ended early: the source knows, when its reader doesn't.
 ghost use Rattle.std.specs.Prelude.{◌≡◌};
 ghost use Rattle.msrp_plan.specs.Common.{true, false, OnOk, source_failed};
 ghost use Rattle.msrp_engine.specs.Answered.{OrUnread};
@@ -7,7 +7,7 @@ use msrp_faults::CliFault;
 use msrp_plan::bytes::Source;
 use std::io::Read;
 
-/// What ended the reading of a source early: a failed read exactly where the source has failed, and else want of memory.
+/// What ended reading early: a failed read if the source has failed, otherwise memory.
 pub fn ending_of<T: Read>(source: &Source<T>) -> CliFault
     ensures read { source_failed source.now ≡ true → result ≡ CliFault.Read }
     ensures memory { source_failed source.now ≡ false → result ≡ CliFault.Memory }
@@ -19,8 +19,8 @@ pub fn ending_of<T: Read>(source: &Source<T>) -> CliFault
     }
 }
 
-/// What was made of a text. Whoever lends a source to a reader can't tell what ended the reading early; asked behind it, the source can. So a
-/// failed read is answered only where the source has failed, and want of memory only where it hasn't.
+/// The result made of a text. A source's borrower can't know what ended reading early, but the
+/// source can: a failed read only if the source has failed, and memory only if it hasn't.
 pub fn settled<A, T: Read>(made: Result<A, CliFault>, source: &Source<T>) -> Result<A, CliFault>
     ensures same { OrUnread result (result ≡ made) }
     ensures made { OnOk made (result ≡ made) }

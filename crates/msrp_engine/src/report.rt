@@ -1,4 +1,4 @@
-//! The report of a trace's text.
+//! The report of a trace's text: rows are judged and counted as they are read.
 ghost use Rattle.std.specs.Prelude.{◌≡◌, ◌<◌, ◌⊎◌};
 ghost use Rattle.msrp_plan.specs.Common.{List, [], true, false, Some, Ok, Err, IfOk, IfErr, length, sink_failed};
 ghost use Rattle.msrp_audit.specs.Audits.{HasFed};
@@ -27,7 +27,7 @@ use msrp_trace::TraceReader;
 use std::alloc::Global;
 use std::io::{Read, Write};
 
-// The report of the rows that were counted, where that is found in them at their end; of a fault there is none.
+// The report of the counted rows, if their verdict is good.
 fn ended(counter: Counter<'_>, found: Result<(), Fault>) -> Result<Report, Fault>
     requires { SomeCounted counter }
     ensures found { verdict_told (Ok result) ≡ Ok found }
@@ -38,7 +38,7 @@ fn ended(counter: Counter<'_>, found: Result<(), Fault>) -> Result<Report, Fault
     Ok(counter.end())
 }
 
-// The report of the rows that are left, if they are a legal run, or else what is found in them. None is read after a faulty one.
+// The report of the remaining rows if they are a legal run, otherwise the verdict.
 #[inline(never)]
 fn report_rows<T: Read>(
     mut counter: Counter<'_>,
@@ -61,7 +61,7 @@ fn report_rows<T: Read>(
     }
 }
 
-// The report of a trace's text. One row of each core is kept. Whatever ends the reading early may be told as a failed read.
+// The report of a trace's text. Any early end of reading may be reported as a failed read.
 fn report_all<T: Read>(
     alloc: Global,
     plan: &Plan,
@@ -81,7 +81,7 @@ fn report_all<T: Read>(
     found
 }
 
-// The text of a report, in memory.
+// The text of a report.
 fn made_of(alloc: Global, plan: &Plan, report: &Report) -> Result<Made, CliFault>
     requires { length report.now.lines.items ≡ length plan.now.tasks }
     ensures text { IfOk result (λ made. made.text.items ≡ report_text plan.now report.now.lines.items) }
@@ -96,7 +96,8 @@ fn made_of(alloc: Global, plan: &Plan, report: &Report) -> Result<Made, CliFault
     })
 }
 
-// The text of the report of a trace of an accepted plan, and the verdict on it. Of rows that are no legal run there is no text.
+// The text of the report on a trace of an accepted plan, and the verdict; without a run it is
+// empty.
 fn report_made<T: Read>(alloc: Global, plan: &Plan, trace: &mut Source<T>) -> Result<Made, CliFault>
     ensures found { OfText T.remaining trace.old result (λ records. IsReported plan.now (rows_of plan.now records) result) }
     ensures faults { IfErr result (λ fault. is_trace_fault fault ≡ true) }
@@ -110,9 +111,10 @@ fn report_made<T: Read>(alloc: Global, plan: &Plan, trace: &mut Source<T>) -> Re
     }
 }
 
-/// The text of the report of a trace of a plan, whoever made it; where the trace isn't a legal run, its first fault and no text.
+/// The text of the report on any trace of a plan, or the first fault and no text.
 ///
-/// The rows are judged and counted as they come, and one of each core is kept. A refused plan is told whatever the trace.
+/// Rows are judged and counted as they are read, and one of each core is stored. A refused plan is
+/// reported whatever the trace is.
 pub fn report_of_texts<P: Read, T: Read>(
     alloc: Global,
     plan: &mut Source<P>,
@@ -128,7 +130,7 @@ pub fn report_of_texts<P: Read, T: Read>(
     settled(made, trace)
 }
 
-// Writes the text that is shown of rows with that verdict, or the verdict in its place, and answers the status.
+// Writes the text, or the verdict in its place if it isn't good, and returns the status.
 fn write_shown<W: Write>(
     out: &mut Sink<W>,
     text: &[u8],
@@ -144,22 +146,22 @@ fn write_shown<W: Write>(
     }
 }
 
-/// Reads a plan and a trace of it, whoever made it, and writes the report of the trace with status 0; where the trace isn't
-/// a legal run, it writes the line of its first fault with status 1, as an audit does.
+/// Reads a plan and any trace of it, and writes the trace's report with status 0; if the trace
+/// isn't a legal run, it writes its first fault with status 1, as an audit does.
 ///
-/// The rows are judged and counted as they come, and one of each core is kept. Nothing is written before the trace is whole and
-/// legal, and all memory is taken before: so whatever the fault, but a write fault, nothing was written. A refused plan is told whatever the trace.
+/// Nothing is written before the whole trace is read and found legal and all memory allocated: so
+/// on any fault but a write fault, nothing was written. Rows are read as by [`report_of_texts`].
 pub fn report_text<P: Read, T: Read, W: Write>(
     alloc: Global,
     plan: &mut Source<P>,
     trace: &mut Source<T>,
     out: &mut Sink<W>,
 ) -> Result<u8, CliFault>
-    // Where the readers tell their bytes, and no read failed and no memory was refused, the answer is that to
-    // the plan and the rows that they stand for.
+    // If the readers' bytes are known, no read failed and memory sufficed, the answer is the one
+    // for the plan and the rows in those bytes.
     ensures answer { OfTexts P.remaining T.remaining plan.old trace.old result (λ plan records. ReportAnswers W.contents plan records out.old out.new result) }
 
-    // Whatever the readers tell.
+    // For any readers.
     ensures always { Answered P.remaining (λ fault. is_audit_fault fault ≡ true) plan.old plan.new trace.old trace.new out.old out.new result }
 {
     let made = report_of_texts(alloc, plan, trace)?;

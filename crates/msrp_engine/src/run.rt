@@ -1,4 +1,4 @@
-//! A plan on threads: from a plan's text to the text of what its cores did.
+//! A plan on threads: from its text to the text of what its cores did.
 
 ghost use Rattle.std.specs.Prelude.{◌≡◌, ◌⊎◌};
 ghost use Rattle.msrp_plan.specs.Common.{true, false, Err, OnOk, OnErr, sink_failed, IsPlan};
@@ -20,8 +20,8 @@ use std::io::{Read, Write};
 use std::sync::Wait;
 use std::thread::Threads;
 
-// Every row of the merge: the first record, and then the row. After a failed write the merge goes on unheard, so that what was
-// written is the first part of the whole trace's text.
+// Writes every row of the merge after the first record. After a failed write the merge goes on
+// without output, so the output is a prefix of the whole text.
 fn write_merged<W: Write>(
     plan: &Plan,
     mut merging: Merging<'_>,
@@ -42,8 +42,8 @@ fn write_merged<W: Write>(
     text.finish(out)
 }
 
-// Runs an accepted plan with a thread for each core that is hired, each turn made by the stage, and writes what the cores did when the run
-// has ended.
+// Runs an accepted plan with a thread for each core that `hire` allows, each turn made by the
+// stage; then writes what the cores did.
 fn write_run<T: Threads + Wait + Sync, W: Write, S: Stage + Sync, H: Hire>(
     rt: &T,
     alloc: Global,
@@ -61,11 +61,12 @@ fn write_run<T: Threads + Wait + Sync, W: Write, S: Stage + Sync, H: Hire>(
     Ok(0)
 }
 
-/// Reads a plan, runs it with a thread for each core that `hire` allows, each turn made by the stage, and writes the trace of what
-/// the cores did, as text of this version. It is [`CliFault::Threads`] where a thread was refused.
+/// Reads a plan, runs it with a thread for each core that `hire` allows, each turn made by the
+/// stage, and writes the trace of what the cores did in this version of text. [`CliFault::Threads`]
+/// if a thread couldn't be started.
 ///
-/// Nothing is written before the run has ended: so whatever the fault, but a write fault, nothing was written. It waits for
-/// its threads, so what it promises holds where it returns.
+/// Nothing is written before the run has ended: so on any fault but a write fault, nothing was
+/// written. The call waits for its threads.
 pub fn run_text_by<T: Threads + Wait + Sync, P: Read, W: Write, S: Stage + Sync, H: Hire>(
     rt: &T,
     alloc: Global,
@@ -75,11 +76,11 @@ pub fn run_text_by<T: Threads + Wait + Sync, P: Read, W: Write, S: Stage + Sync,
     stage: &S,
     hire: &H,
 ) -> Result<u8, CliFault>
-    // Where the reader tells its bytes, and no read failed and no memory and no thread was refused, the answer is that to
-    // the plan that they stand for: a legal run of it, made by its cores on threads.
+    // If the reader's bytes are known, no read failed and memory and threads sufficed, the answer
+    // is the one for the plan in those bytes: a legal run of it, made by its cores on threads.
     ensures answer { OfText P.remaining plan.old result (λ records. (result ≡ Err CliFault.Threads) ⊎ RunAnswers W.contents version (plan_of records) out.old out.new result) }
 
-    // Whatever the reader tells.
+    // For any reader.
     ensures written { OnOk result (WritesSomeThreadedRun W.contents version out.old out.new) }
     ensures always { AnsweredPlan (λ fault. (fault ≡ CliFault.Threads) ⊎ (is_sim_fault fault ≡ true)) plan.new out.old out.new result }
 {
@@ -87,8 +88,7 @@ pub fn run_text_by<T: Threads + Wait + Sync, P: Read, W: Write, S: Stage + Sync,
     write_run(rt, alloc, &plan, out, version, stage, hire)
 }
 
-/// Reads a plan, runs it with a thread for each core that `hire` allows, and writes the trace of what the cores did, as [`run_text_by`]
-/// does with the stage that makes the turns and does nothing else.
+/// As [`run_text_by`], with the stage that makes the turns and does nothing else.
 pub fn run_text_if<T: Threads + Wait + Sync, P: Read, W: Write, H: Hire>(
     rt: &T,
     alloc: Global,
@@ -104,8 +104,7 @@ pub fn run_text_if<T: Threads + Wait + Sync, P: Read, W: Write, H: Hire>(
     run_text_by(rt, alloc, plan, out, version, &Plain, hire)
 }
 
-/// Reads a plan, runs it with a thread for each core, and writes the trace of what the cores did, as [`run_text_if`] does
-/// where every thread may be started.
+/// As [`run_text_if`], with no core's thread refused by the caller.
 pub fn run_text<T: Threads + Wait + Sync, P: Read, W: Write>(
     rt: &T,
     alloc: Global,

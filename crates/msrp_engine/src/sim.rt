@@ -24,7 +24,7 @@ use msrp_trace::{RowTexts, TraceWriter};
 use std::alloc::Global;
 use std::io::{Read, Write};
 
-// The next turn. Where its row is known from its core's last one, so is its text; else that is made.
+// The next turn. A row known from its core's last one has a known text; otherwise the text is made.
 #[inline(always)]
 fn next_turn(simulation: &mut Simulation<'_>, texts: &mut RowTexts<'_>) -> Row
     requires accepted { IsPlan simulation.old.plan }
@@ -50,8 +50,8 @@ fn next_turn(simulation: &mut Simulation<'_>, texts: &mut RowTexts<'_>) -> Row
     }
 }
 
-// Every turn of the simulation: the first record, and then the row of each turn. After a failed write the run goes on
-// unheard, so that what was written is the first part of the whole run's text.
+// Writes every turn's row after the first record. After a failed write the run goes on without
+// output, so the output is a prefix of the whole text.
 fn write_run<W: Write>(
     plan: &Plan,
     simulation: &mut Simulation<'_>,
@@ -78,7 +78,7 @@ fn write_run<W: Write>(
     text.finish(out)
 }
 
-// Runs an accepted plan in this order, and writes the run. All memory is taken before the first byte is written.
+// Runs an accepted plan in this order, and writes the run; allocates before the first write.
 fn write_sim<W: Write>(
     alloc: Global,
     plan: &Plan,
@@ -98,7 +98,7 @@ fn write_sim<W: Write>(
     Ok(0)
 }
 
-// Runs it so where the order is one of the plan.
+// Runs it if the order is one of the plan.
 fn write_in_order<W: Write>(
     alloc: Global,
     plan: &Plan,
@@ -118,12 +118,12 @@ fn write_in_order<W: Write>(
     write_sim(alloc, plan, out, order, version)
 }
 
-/// Reads a plan, and writes the trace of its run on one thread in which the cores have their turns in this order, as text of
-/// this version. It is [`CliFault::Usage`] where the order is a list that doesn't name each core of the plan once in each
-/// tick.
+/// Reads a plan, and writes the trace of its run on one thread in this order of turns and this
+/// version of text. [`CliFault::Usage`] if the order is a list that doesn't name each core of the
+/// plan once in each tick.
 ///
-/// The whole plan is read before anything is written, and all memory is taken before: so whatever the fault, but a write
-/// fault, nothing was written.
+/// The whole plan is read and all memory allocated before the first write: so on any fault but a
+/// write fault, nothing was written.
 pub fn sim_text<P: Read, W: Write>(
     alloc: Global,
     plan: &mut Source<P>,
@@ -131,11 +131,11 @@ pub fn sim_text<P: Read, W: Write>(
     order: &Order,
     version: TextVersion,
 ) -> Result<u8, CliFault>
-    // Where the reader tells its bytes, and no read failed and no memory was refused, the answer is that to
-    // the plan that they stand for.
+    // If the reader's bytes are known, no read failed and memory sufficed, the answer is the one
+    // for the plan in those bytes.
     ensures answer { OfText P.remaining plan.old result (λ records. SimAnswers W.contents version order.now (plan_of records) out.old out.new result) }
 
-    // Whatever the reader tells.
+    // For any reader.
     ensures written { OnOk result (WritesSomeRun W.contents version order.now out.old out.new) }
     ensures always { AnsweredPlan (λ fault. (fault ≡ CliFault.Usage) ⊎ (is_sim_fault fault ≡ true)) plan.new out.old out.new result }
 {

@@ -1,4 +1,4 @@
-//! The texts of a plan: a plan is read, a text of it is gathered in memory, and then written.
+//! The texts of a plan: it is read, a text of it is made in memory, then written.
 
 ghost use Rattle.std.specs.Prelude.{◌≡◌, ◌⊎◌};
 ghost use Rattle.msrp_plan.specs.Common.{true, Err, IfOk, IfErr, OnOk, Wrote, IsPlan};
@@ -26,7 +26,7 @@ pub(crate) enum PlanText {
     Levels,
 }
 
-// The text that is asked for, in memory.
+// The requested text.
 fn gathered(alloc: Global, plan: &Plan, which: PlanText) -> Result<Vec<u8>, CliFault>
     ensures plan { OnOk result (IsPlan plan.now) }
     ensures text { IfOk result (λ text. text.items ≡ text_of which plan.now) }
@@ -38,7 +38,7 @@ fn gathered(alloc: Global, plan: &Plan, which: PlanText) -> Result<Vec<u8>, CliF
     }
 }
 
-// Gathers it, and writes it.
+// Makes the text and writes it.
 fn write_gathered<W: Write>(
     alloc: Global,
     plan: &Plan,
@@ -51,8 +51,8 @@ fn write_gathered<W: Write>(
     write_answer(out, text.as_slice(), Ok(0))
 }
 
-/// Reads a plan, and writes the text of it that is asked for. The whole plan is read before anything is written, and all memory is taken before:
-/// so whatever the fault, but a write fault, nothing was written.
+/// Reads a plan, and writes the requested text of it. The whole plan is read and all memory
+/// allocated before the first write: so on any fault but a write fault, nothing was written.
 pub(crate) fn write_text<P: Read, W: Write>(
     alloc: Global,
     plan: &mut Source<P>,

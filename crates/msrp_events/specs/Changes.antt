@@ -1,4 +1,4 @@
--- What each event changes: a machine without tolerances, and its clocks.
+-- What each event changes: the state without tolerances, and its clocks.
 use Rattle.std.specs.Prelude.{ℕ, List, [], ◌∷◌, ◌++◌, Bool, true, false, ◌&&◌, not, Option, Some, None, fold, set, remove, replicate, slice_index_or, length, if◌then◌else◌, ◌+◌}
 use Rattle.msrp_plan.specs.Plan.{PlanModel, core_of}
 use Rattle.msrp_plan.specs.Runs.{same_choice}
@@ -14,9 +14,9 @@ use Rattle.msrp_events.specs.declared.events.LockAction.TheVariants.{Request, Po
 use Rattle.msrp_events.specs.declared.events.Event.{Event}
 
 -- ---- the state
--- what is known after some events: the jobs that are released and have not ended, in the order of their releases and
--- requests; each core; of each resource since when it has been free while a job awaits it; of each task the number of
--- its next job; and whether the log has stopped
+-- what is known after some events: the released, unended jobs, in the order of releases and
+-- requests; each core; for each resource since when it has been free while a job awaits it; for
+-- each task its next job's number; whether the log has stopped
 pub record LogState : Type 0 where
   pub jobs : List LiveJob
   pub cores : List CoreLog
@@ -24,7 +24,7 @@ pub record LogState : Type 0 where
   pub next : List ℕ
   pub stopped : Bool
 
--- what stands for a core, or a job, that isn't there
+-- used in place of a core, or a job, that isn't there
 abbrev pub idle_core : CoreLog
 idle_core = record { booted = false; time = 0; number = None; run = None; since = None; acted = None }
 
@@ -51,7 +51,7 @@ first_state system = record {
 }
 
 -- ---- jobs
--- the job at this place, if there is one, is changed; or taken away; or changed and put last
+-- the job at this index, if there is one, is changed; or removed; or changed and put last
 abbrev pub changed_at : Option ℕ → (LiveJob → LiveJob) → List LiveJob → List LiveJob
 changed_at None change jobs = jobs
 changed_at (Some i) change jobs = set jobs i (change (slice_index_or jobs i no_job))
@@ -76,7 +76,7 @@ as_waiting j = record j { waits = true }
 abbrev pub as_stepped : LiveJob → LiveJob
 as_stepped j = record j { waits = false; step = j.step + 1 }
 
--- a request puts the job behind all that requested before, a poll changes nothing, and the rest is one step more
+-- a request puts the job after all earlier requests, a poll does nothing, other steps count as one
 abbrev pub jobs_stepped : LockAction → JobId → List LiveJob → List LiveJob
 jobs_stepped Request j jobs = last_at (place_of jobs j) as_waiting jobs
 jobs_stepped Poll j jobs = jobs
@@ -94,7 +94,7 @@ next_with (Release j deadline) next = set next j.task.0 (j.k + 1)
 next_with _ next = next
 
 -- ---- cores
--- the core that the event is of does this
+-- the core of the event does this
 abbrev pub acts : Action → ℕ → CoreLog → CoreLog
 acts Boot now c = record c { booted = true }
 acts (Switch j) now c = record c { run = j }
@@ -110,7 +110,7 @@ stopped_with Stop = true
 stopped_with _ = false
 
 -- ---- clocks
--- a clock runs from the event on that makes its condition true, until one that makes it false
+-- a clock runs from the event that makes its condition true to one that makes it false
 abbrev pub clock_after : Bool → Option ℕ → ℕ → Option ℕ
 clock_after false clock now = None
 clock_after true None now = Some now
@@ -145,7 +145,7 @@ abbrev pub free_timed : PlanModel → List LiveJob → Option ℕ → ℕ → Li
 free_timed system jobs None now free = free
 free_timed system jobs (Some g) now free = set free g (clock_after (is_ungranted system jobs g) (free_at free g) now)
 
--- ---- the state after one event more
+-- ---- the state after one more event
 abbrev pub cores_acted : Event → List CoreLog → List CoreLog
 cores_acted e cores = set cores e.core.0 (core_with e (core_at cores e.core.0))
 
@@ -158,7 +158,7 @@ moved system s e = record {
   stopped = stopped_with e.action;
 }
 
--- after the log has stopped nothing changes any more
+-- after the log has stopped nothing changes
 abbrev pub state_with : PlanModel → LogState → Event → LogState
 state_with system s e = if s.stopped then s else moved system s e
 

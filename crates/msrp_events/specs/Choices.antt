@@ -1,4 +1,4 @@
--- Which job a core should run after some events: earliest deadline first under the Stack Resource Policy, as in a plan's ticks.
+-- The job that a core should run after some events: EDF under the SRP, as in a plan's ticks.
 use Rattle.std.specs.Prelude.{ℕ, List, Bool, true, false, ◌&&◌, not, nat_lt, Option, Some, None, if◌then◌else◌, filter}
 use Rattle.std.specs.List.{list_any}
 use Rattle.std.specs.Option.{option_map}
@@ -31,7 +31,7 @@ head system jobs c = first_of system jobs c false
 abbrev pub running : PlanModel → List LiveJob → ℕ → Option LiveJob
 running system jobs c = first_of system jobs c true
 
--- the current ceiling of the core: by the resources that its jobs hold, and whether one of them waits for a global one
+-- the core's current ceiling, from what its jobs hold, and whether one waits for a global resource
 abbrev pub ceiling : PlanModel → List LiveJob → ℕ → ℕ
 ceiling system jobs c = ceiling_with system c (list_any (λ j. is_on system c j && j.waits) jobs) (λ g. list_any (λ j. is_on system c j && holds system g j) jobs)
 
@@ -40,7 +40,7 @@ abbrev pub comes_first : PlanModel → LiveJob → Option LiveJob → Bool
 comes_first system h None = true
 comes_first system h (Some s) = is_before system h s
 
--- the head where its level is above the ceiling and it comes before who is started; else who is started
+-- the head if its level is above the ceiling and it comes first; otherwise the started job
 abbrev pub chosen : PlanModel → ℕ → Option LiveJob → Option LiveJob → Option LiveJob
 chosen system above None s = s
 chosen system above (Some h) s = if nat_lt above (level system h.job.task.0) && comes_first system h s then Some h else s

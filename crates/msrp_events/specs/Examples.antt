@@ -1,3 +1,3 @@
--- Worked examples: logs short enough to follow by hand, each with what it shows. `src/worked.rt` says what that is.
+-- Worked examples: logs short enough to follow by hand. `src/worked.rt` says what each shows.
 pub mod Notation
 pub mod TwoCores

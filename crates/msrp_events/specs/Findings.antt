@@ -1,4 +1,4 @@
--- The order of judging: the first line that an event breaks is what it shows. The first event that shows something decides.
+-- The order of the checks: an event's finding is the first line that it violates.
 use Rattle.std.specs.Prelude.{ℕ, List, [], ◌∷◌, Bool, true, false, ◌==◌, not, nat_lt, nat_le, Option, Some, None, if◌then◌else◌, length, ◌+◌}
 use Rattle.std.specs.Option.{option_or}
 use Rattle.msrp_plan.specs.Plan.{PlanModel, core_of}
@@ -54,11 +54,11 @@ abbrev pub absent : ℕ → ℕ → Option LiveJob → Option Finding
 absent next k None = if nat_le next k then Some (Fault E5) else Some (Fault E6)
 absent next k (Some x) = None
 
--- the job is one of the core, is released and has not ended
+-- the job is one of the core, and was released and hasn't ended
 abbrev pub job_finding : PlanModel → LogState → ℕ → JobId → Option Finding
 job_finding system s c j = fault_if (nat_le (length system.tasks) j.task.0) E3 (fault_if (not (core_of system j == c)) E4 (absent (next_at s.next j.task.0) j.k (live s.jobs j)))
 
--- a task's jobs are released in order, each once, and no more are open than the reader asked for
+-- a task's jobs are released in order, each once, and no more are open than the tolerances allow
 abbrev pub release_finding : PlanModel → Tolerances → LogState → JobId → Option Finding
 release_finding system tolerances s j =
     fault_if (nat_le (length system.tasks) j.task.0) E3 (
@@ -74,7 +74,7 @@ abbrev pub switch_finding : PlanModel → LogState → ℕ → Option JobId → 
 switch_finding system s c None = choice_finding system s c None
 switch_finding system s c (Some j) = option_or (job_finding system s c j) (choice_finding system s c (Some j))
 
--- an acquisition without a request is a gap in the log, and every other step out of order a fault
+-- an acquisition without a request is a gap in the log; every other step out of order is a fault
 abbrev pub order_finding : Bool → LockAction → Option Finding → Option Finding
 order_finding true kind rest = rest
 order_finding false Acquire rest = Some (Incomplete missing.Request)
@@ -84,7 +84,7 @@ abbrev pub step_of_finding : PlanModel → LogState → LockAction → JobId →
 step_of_finding system s kind j g None = None
 step_of_finding system s kind j g (Some x) = order_finding (is_next_step system kind g x) kind (fault_if (not (has_outcome system s.jobs kind g j)) E10 None)
 
--- the running job acts, in time, does its next step, and the lock answers it as it must
+-- the running job acts, in time, does its next step, and the lock answers as it must
 abbrev pub step_finding : PlanModel → Tolerances → LogState → Event → LockAction → JobId → ℕ → Option Finding
 step_finding system tolerances s e kind j g =
     option_or (job_finding system s e.core.0 j) (
@@ -108,15 +108,15 @@ action_finding system tolerances s e (End j) = end_finding system s e.core.0 j
 action_finding system tolerances s e _ = None
 
 -- ---- one event, and a log
--- what the event shows after the others, in the order of judging
+-- the finding on the event after the others: the first in the order of the checks
 abbrev pub finding_of : PlanModel → Tolerances → LogState → Event → Option Finding
 finding_of system tolerances s e = if s.stopped then None else option_or (continuity s e) (option_or (time_finding tolerances s e) (action_finding system tolerances s e e.action))
 
--- the first thing that the events show from a state on
+-- the first finding on the events from a state on
 abbrev pub finding_from : PlanModel → Tolerances → LogState → List Event → Option Finding
 finding_from system tolerances s [] = None
 finding_from system tolerances s (e ∷ events) = option_or (finding_of system tolerances s e) (finding_from system tolerances (state_with system s e) events)
 
--- the first thing that the events of a log show; none exactly where they are the start of a legal log
+-- the first finding on the events of a log; none exactly if they are the start of a legal log
 abbrev pub finding_in : PlanModel → Tolerances → List Event → Option Finding
 finding_in system tolerances events = finding_from system tolerances (first_state system) events

@@ -1,4 +1,4 @@
--- What the laws on logs speak of.
+-- The notions in the laws on logs.
 use Rattle.std.specs.Prelude.{ℕ, List, None, count_by, ◌≡◌, ◌≤◌}
 use Rattle.msrp_plan.specs.Plan.{PlanModel}
 use Rattle.msrp_events.specs.LiveJobs.{holds}
@@ -8,7 +8,7 @@ use Rattle.msrp_events.specs.Findings.{finding_in, finding_from}
 use Rattle.msrp_events.specs.declared.events.Event.{Event}
 use Rattle.msrp_events.specs.declared.states.Tolerances.{Tolerances}
 
--- the events show nothing: they are the start of a legal log, or go on with one from this state
+-- no finding on the events: they are the start of a legal log, or continue one from this state
 abbrev pub IsLegalLog : PlanModel → Tolerances → List Event → Type 0
 IsLegalLog system tolerances events = finding_in system tolerances events ≡ None
 

@@ -1,5 +1,5 @@
--- The jobs that are released and have not ended, and what each of them holds and awaits. A system is a plan without
--- ticks and release times: its deadlines are in ns, and the units of its tasks are locks and unlocks alone.
+-- The released, unended jobs, and what each holds and awaits. A system is a plan without ticks and
+-- release times: its deadlines are in ns, and its tasks' units are only locks and unlocks.
 use Rattle.std.specs.Prelude.{ℕ, List, Bool, false, ◌==◌, ◌&&◌, Option, Some, None, take, slice_get, ◌-◌}
 use Rattle.std.specs.List.{list_any, position}
 use Rattle.std.specs.Option.{option_and_then}
@@ -11,7 +11,7 @@ use Rattle.msrp_plan.specs.declared.ids.JobKey.{JobKey}
 use Rattle.msrp_plan.specs.declared.units.Op.{Op}
 use Rattle.msrp_events.specs.declared.states.LiveJob.{LiveJob}
 
--- the key that jobs are ordered by: absolute deadline, release by the deadline, task number, job number
+-- the key of a job: absolute deadline, release by the deadline, task number, job number
 abbrev pub live_key : PlanModel → LiveJob → JobKey
 live_key system j = record { deadline = j.deadline; release = j.deadline - (task_of system j.job).deadline; task = j.job.task.0; k = j.job.k }
 
@@ -46,7 +46,7 @@ is_held system jobs g = list_any (holds system g) jobs
 abbrev pub is_awaited : PlanModel → List LiveJob → ℕ → Bool
 is_awaited system jobs g = list_any (awaits system g) jobs
 
--- the place of a job among the jobs, and the job with what is known of it
+-- the index of a job among the jobs, and the job with what is known of it
 abbrev pub place_of : List LiveJob → JobId → Option ℕ
 place_of jobs j = position (λ x. same_job x.job j) jobs
 

@@ -1,4 +1,4 @@
--- The rules of a legal log, and what a log may lack. Each is a test of one event after some others.
+-- The rules of a legal log, and what a log may lack. Each is a test of one event after others.
 use Rattle.std.specs.Prelude.{ℕ, List, Bool, true, false, ◌==◌, ◌&&◌, ◌||◌, not, nat_lt, nat_le, is_some, Option, Some, None, length, ◌+◌, find}
 use Rattle.std.specs.List.{list_any, range_with_len}
 use Rattle.std.specs.Option.{option_map}
@@ -15,7 +15,7 @@ use Rattle.msrp_events.specs.declared.events.LockAction.{LockAction}
 use Rattle.msrp_events.specs.declared.events.LockAction.TheVariants.{Lock, Unlock, Request, Acquire, Poll, Freed}
 
 -- ---- time
--- more than so long has passed since then; or at least so long
+-- more than this has passed since then; or at least this
 abbrev pub is_past : Option ℕ → ℕ → ℕ → Bool
 is_past None wait now = true
 is_past (Some t) wait now = nat_lt (t + wait) now
@@ -24,7 +24,7 @@ abbrev pub is_reached : Option ℕ → ℕ → ℕ → Bool
 is_reached None wait now = true
 is_reached (Some t) wait now = nat_le (t + wait) now
 
--- E1: the core has not run the job that it should for longer than this, counted from the end of its own last operation
+-- E1: for longer than this the core hasn't run the right job, from its own last operation's end on
 abbrev pub is_overdue : ℕ → ℕ → ℕ → CoreLog → Bool
 is_overdue operation slack now c = c.booted && (is_some c.since && (is_past c.since slack now && is_past c.acted (operation + slack) now))
 
@@ -39,7 +39,7 @@ is_overdue_at tolerances cores own now c = is_overdue tolerances.operation (allo
 abbrev pub any_overdue : Tolerances → List CoreLog → ℕ → ℕ → Bool
 any_overdue tolerances cores own now = list_any (is_overdue_at tolerances cores own now) (range_with_len 0 (length cores))
 
--- E2: the resource has been free for longer than this while a job awaits it
+-- E2: for longer than this the resource has been free while a job awaits it
 abbrev pub is_late : ℕ → ℕ → Option ℕ → Bool
 is_late wait now None = false
 is_late wait now (Some t) = nat_lt (t + wait) now
@@ -47,12 +47,12 @@ is_late wait now (Some t) = nat_lt (t + wait) now
 abbrev pub any_late : Tolerances → List (Option ℕ) → ℕ → Bool
 any_late tolerances free now = list_any (is_late (tolerances.operation + tolerances.slack + tolerances.skew) now) free
 
--- E8, for a step: the core has not run the job that it should for as long as it may, and still acts for another one
+-- E8, for a step: for as long as allowed the core hasn't run the right job, and another still acts
 abbrev pub acts_late : Tolerances → ℕ → CoreLog → Bool
 acts_late tolerances now c = is_some c.since && (is_reached c.since tolerances.slack now && is_reached c.acted (tolerances.operation + tolerances.slack) now)
 
 -- ---- the rules of a step
--- E9: the step is the job's next one; only a waiting job acquires or polls, and only one that doesn't wait does anything else
+-- E9: the step is the job's next one; exactly a waiting job acquires or polls
 abbrev pub is_next_step : PlanModel → LockAction → ℕ → LiveJob → Bool
 is_next_step system Lock g j = not j.waits && (locks_next g (next_unit system j) && not (is_global system g))
 is_next_step system Unlock g j = not j.waits && (unlocks_next g (next_unit system j) && not (is_global system g))
@@ -60,14 +60,14 @@ is_next_step system Request g j = not j.waits && (locks_next g (next_unit system
 is_next_step system Freed g j = not j.waits && (unlocks_next g (next_unit system j) && is_global system g)
 is_next_step system _ g j = awaits system g j
 
--- of those that await the resource the one that asked first
+-- of the jobs that await the resource, the first to request it
 abbrev pub first_waiting : PlanModel → List LiveJob → ℕ → Option JobId
 first_waiting system jobs g = option_map (λ x. x.job) (find (awaits system g) jobs)
 
 abbrev pub is_first : PlanModel → List LiveJob → ℕ → JobId → Bool
 is_first system jobs g j = is_job (first_waiting system jobs g) j
 
--- E10: nobody holds what is locked or acquired; who acquires asked first; and a poll fails only where it must
+-- E10: what is locked or acquired is free; the first requester acquires; a failing poll must fail
 abbrev pub has_outcome : PlanModel → List LiveJob → LockAction → ℕ → JobId → Bool
 has_outcome system jobs Lock g j = not (is_held system jobs g)
 has_outcome system jobs Acquire g j = not (is_held system jobs g) && is_first system jobs g j

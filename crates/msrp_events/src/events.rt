@@ -1,4 +1,4 @@
-//! Events of a log: what a core records, and when.
+//! Events of a kernel's log: what a core recorded, and when.
 use msrp_plan::{CoreId, JobId, ResId};
 
 /// What a running job does with a resource.
@@ -8,11 +8,11 @@ pub enum LockAction {
     Lock,
     /// It unlocks a local resource.
     Unlock,
-    /// It requests a global resource, and spins from here on until it acquires the resource.
+    /// It requests a global resource, and spins from now on until it acquires it.
     Request,
     /// It acquires the global resource that it requested.
     Acquire,
-    /// It looks whether it may acquire the resource that it requested, and may not.
+    /// It polls the resource that it requested, without success.
     Poll,
     /// It frees a global resource.
     Freed,
@@ -31,14 +31,14 @@ pub enum Action {
     Step(LockAction, JobId, ResId),
     /// The running job ends.
     End(JobId),
-    /// The log ends here on purpose. Events after the first such one aren't judged.
+    /// The log ends here on purpose. Later events aren't judged.
     Stop,
     /// The tracer lost records of the core.
     Lost,
 }
 
-/// One record of a log: its time in ns by the core's clock, the core that wrote it, and, where the log has them, its
-/// number among the records of that core.
+/// One record of a log: its time in ns by the core's clock, its core, and, if the log has one, its
+/// number among the core's records.
 #[derive(Clone, Copy, Debug, PartialEq, Eq)]
 pub struct Event {
     pub time: u64,

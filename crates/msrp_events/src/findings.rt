@@ -1,11 +1,11 @@
-//! What is found in a log: a rule that the scheduler violates, or something that the log lacks.
+//! The findings on a log: a rule that the scheduler violated, or something that the log lacks.
 
-/// A rule of a legal log. An event is judged by them in this order.
+/// A rule of a legal log. Each event is checked for them in this order.
 #[derive(Clone, Copy, Debug, PartialEq, Eq)]
 pub enum LogRule {
-    /// Overdue: a core has not run the job that it should for longer than the slack.
+    /// Overdue: for longer than the slack a core hasn't run the job that it should.
     E1,
-    /// Late grant: a resource has been free for longer than the slack while a job waits for it.
+    /// Late grant: for longer than the slack a resource has been free while a job waits for it.
     E2,
     /// Unknown job: the system has no such task.
     E3,
@@ -17,15 +17,16 @@ pub enum LogRule {
     E6,
     /// Released twice.
     E7,
-    /// Wrong job: the core switches to another job than it should, or another job than the running one acts.
+    /// Wrong job: the core switches to another than the chosen job, or a job acts that isn't
+    /// running.
     E8,
-    /// Wrong step: it isn't the job's next lock, unlock or end.
+    /// Wrong step: not the job's next lock, unlock or end.
     E9,
-    /// Wrong outcome of a lock: the resource is held, another job waits first, or the poll should have been served.
+    /// Wrong lock outcome: the resource is held, another job is first, or the poll should succeed.
     E10,
 }
 
-/// What a log lacks, so that it can't be judged any further. It accuses nobody.
+/// What a log lacks, so that it can't be judged further. The scheduler isn't accused.
 #[derive(Clone, Copy, Debug, PartialEq, Eq)]
 pub enum Missing {
     /// The core isn't one of the system.
@@ -42,7 +43,7 @@ pub enum Missing {
     Release,
     /// The request of the resource that is acquired.
     Request,
-    /// Room for one more job that is released and has not ended.
+    /// Room for one more released, unended job.
     Room,
 }
 

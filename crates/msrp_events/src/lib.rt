@@ -1,7 +1,7 @@
 //! A kernel's log as events with times, and the definitions of what a legal one is.
 //!
-//! `specs/` has the state after a list of events, the rules and the first finding. `docs/LOG.md` leads through it.
-//! [`laws`] are theorems about these definitions, and [`worked`] are examples of them.
+//! `specs/` defines the state after some events, the rules and the first finding (see
+//! `docs/LOG.md`). [`laws`] are theorems about these definitions, and [`worked`] has examples.
 #![tactic(auto)]
 
 mod events;

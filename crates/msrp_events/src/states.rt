@@ -1,7 +1,7 @@
 //! What is known after some events of a log, and how exact its times are.
 use msrp_plan::JobId;
 
-/// A job that is released and has not ended.
+/// A job that was released and hasn't ended.
 #[derive(Clone, Copy, Debug, PartialEq, Eq)]
 pub struct LiveJob {
     pub job: JobId,
@@ -11,7 +11,7 @@ pub struct LiveJob {
     pub started: bool,
     /// Whether it waits for the global resource that it locks next.
     pub waits: bool,
-    /// How many of its locks and unlocks it has done.
+    /// The number of its locks and unlocks so far.
     pub step: u32,
 }
 
@@ -24,23 +24,23 @@ pub struct CoreLog {
     pub time: u64,
     /// The number of its last record.
     pub number: Option<u64>,
-    /// The job that runs.
+    /// The running job.
     pub run: Option<JobId>,
-    /// Since when the choice has differed from the job that runs.
+    /// Since when another job than the running one is chosen.
     pub since: Option<u64>,
-    /// When the core last did something with a resource.
+    /// When the core last used a resource.
     pub acted: Option<u64>,
 }
 
-/// How exact the times of a log are, in ns, and how many jobs it may keep open.
+/// How exact the times of a log are, in ns, and how many jobs may be open.
 #[derive(Clone, Copy, Debug, PartialEq, Eq)]
 pub struct Tolerances {
-    /// How long an operation on a resource takes. The core can't switch meanwhile.
+    /// How long an operation on a resource takes; meanwhile the core can't switch.
     pub operation: u32,
     /// How long the kernel may take to react.
     pub slack: u32,
-    /// How much the clocks of two cores may differ.
+    /// By how much two cores' clocks may differ.
     pub skew: u32,
-    /// How many jobs may be released and not ended at once.
+    /// The most jobs that may be released and not ended at once.
     pub backlog: u32,
 }

@@ -1,6 +1,6 @@
-//! Worked examples, computed from the definitions alone: a legal log of two cores, and for each rule and each thing
-//! that a log may lack a log that shows it. Each function does nothing; its contract is the example. The logs are in
-//! `specs/Examples`.
+//! Worked examples, computed from the definitions alone: a legal log of two cores, and a log for
+//! each rule violated and each thing lacking. Each function does nothing; its contract is the
+//! example. The logs are in `specs/Examples`.
 ghost use Rattle.std.specs.Prelude.{◌≡◌, true, false};
 ghost use Rattle.msrp_plan.specs.Levels.{level, local_ceiling, top, is_global};
 ghost use Rattle.msrp_events.specs.Findings.{finding_in};
@@ -9,7 +9,7 @@ ghost use Rattle.msrp_events.specs.Examples.TwoCores as two;
 ghost use Rattle.msrp_events.specs.declared.findings.LogRule.TheVariants.{E1, E2, E3, E4, E5, E6, E7, E8, E9, E10};
 ghost use Rattle.msrp_events.specs.declared.findings.Missing.TheVariants.{Core, Start, Restart, Records, Clock, Release, Request, Room};
 
-/// The log is legal, and what follows its end isn't judged.
+/// The log is legal, and events after its end aren't judged.
 pub fn legal_log()
     ensures log { finding_in two.system two.tolerances two.log ≡ good }
     ensures after_stop { finding_in two.system two.tolerances two.after_stop ≡ good }
@@ -40,7 +40,7 @@ pub fn faulty_logs()
     ensures polls_past_its_turn { finding_in two.system two.tolerances two.polls_past_its_turn ≡ fault E10 }
 {}
 
-/// What a log lacks is no fault.
+/// What a log lacks isn't a fault.
 pub fn incomplete_logs()
     ensures from_an_unknown_core { finding_in two.system two.tolerances two.from_an_unknown_core ≡ lacks Core }
     ensures without_a_start { finding_in two.system two.tolerances two.without_a_start ≡ lacks Start }

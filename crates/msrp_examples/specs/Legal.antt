@@ -1,4 +1,4 @@
--- A trace's text that tells a legal run of the plan that another text tells.
+-- A trace's text with a legal run of another text's plan.
 use Rattle.std.specs.Prelude.{◌≡◌}
 use Rattle.msrp_plan.specs.Common.{ℕ, List, None, Ok, PlanModel, IsRun}
 use Rattle.msrp_text.specs.Reading.{csv_records, plan_of}

@@ -1,4 +1,4 @@
-//! Judges a trace that lies in memory, by the engine of `msrp audit`.
+//! Judges a trace in memory, with the engine of `msrp audit`.
 ghost use Rattle.std.specs.Prelude.{◌≡◌};
 ghost use Rattle.msrp_plan.specs.Common.{Ok, true};
 ghost use Rattle.msrp_examples.specs.Legal.{TellsRun};
@@ -12,7 +12,7 @@ const PLAN: &str = "msrp,1\ncores,1\nticks,3\ntask,pump,0,3,3,0\nop,run,2\n";
 
 const SEEN: &str = "msrp-trace,1,1,3\n0,0,run,pump,0,-\n1,0,idle,-,-,-\n2,0,run,pump,0,-\n";
 
-/// Whether the trace is a legal run of the plan. The line that `msrp audit` prints is written to `out`.
+/// Whether the trace is a legal run of the plan. Writes the line of `msrp audit` to `out`.
 #[tactic(auto, using(crate::proofs::Legal::good_tells))]
 pub fn is_legal<W: Write>(
     alloc: Global,
@@ -29,7 +29,7 @@ pub fn is_legal<W: Write>(
     Ok(status == 0)
 }
 
-/// Judges what a bench recorded: the pump paused in tick 1, though it had the turn.
+/// Judges a recorded trace: the pump paused in tick 1, though it should have run.
 pub fn recorded<W: Write>(alloc: Global, out: &mut W) -> Result<(), &'static str> {
     match is_legal(alloc, PLAN.as_bytes(), SEEN.as_bytes(), out) {
         Ok(_) => Ok(()),

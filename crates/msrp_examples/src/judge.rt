@@ -1,4 +1,4 @@
-//! Judges rows as a tracer of one's own gives them, one by one.
+//! Judges rows one by one, as your own tracer might deliver them.
 
 use msrp_audit::Auditor;
 use msrp_levels::Levels;
@@ -41,7 +41,7 @@ fn seen() -> [Row; 2] {
     ]
 }
 
-/// Feeds the rows to an auditor, which takes no memory for them, and prints the first that breaks a rule.
+/// Feeds the rows to an auditor, which doesn't allocate, and prints the first that violates a rule.
 fn feed_all(rt: &impl Print, auditor: &mut Auditor<'_>) -> Result<(), &'static str> {
     for row in seen() {
         if let Err(fault) = auditor.feed(row) {
@@ -53,7 +53,7 @@ fn feed_all(rt: &impl Print, auditor: &mut Auditor<'_>) -> Result<(), &'static s
     println!(rt; "good so far").map_err(|_| "write fault")
 }
 
-/// Judges what the tracer saw of a run of the plan.
+/// Judges the tracer's rows of a run of the plan.
 pub fn judged(rt: &impl Print, alloc: Global) -> Result<(), &'static str> {
     let mut text = Source::new(PLAN.as_bytes());
     let plan = read_plan(alloc, &mut text).map_err(|_| "the plan is refused")?;

@@ -1,4 +1,4 @@
-//! Runs the machines of two cores over one lock, in an order of turns of one's own.
+//! Runs the machines of two cores over one lock, in your own order of turns.
 ghost use Rattle.std.specs.Prelude.{◌≡◌, ◌≢◌};
 ghost use Rattle.msrp_core.specs.Machine.{MachineModel};
 ghost use Rattle.msrp_examples.specs.Lock.{CanGoOn};
@@ -14,7 +14,7 @@ use std::io::Print;
 /// The core of each turn: in the third tick core 1 has the first one.
 const TURNS: [u32; 12] = [0, 1, 0, 1, 1, 0, 0, 1, 0, 1, 0, 1];
 
-/// The next turn of one core, if it has one left. The machines of other cores can go on after it as they could before.
+/// The next turn of one core, if it has one left. The other cores' machines are unaffected.
 fn turn(plan: &Plan, machine: &mut Machine<'_>, port: &mut FifoPort)
     requires plan { machine.old.plan ≡ plan.now }
     requires goes { CanGoOn machine.old port.old }
@@ -29,7 +29,7 @@ fn turn(plan: &Plan, machine: &mut Machine<'_>, port: &mut FifoPort)
     machine.turn(port);
 }
 
-/// Two cores of a plan over one lock, after these turns.
+/// The lock of two cores of a plan after these turns.
 fn served(alloc: Global, plan: &Plan) -> Result<FifoPort, Memory> {
     let levels = Levels::of(alloc, plan)?;
     let mut port = FifoPort::with_room(alloc, plan)?;
@@ -47,7 +47,7 @@ fn served(alloc: Global, plan: &Plan) -> Result<FifoPort, Memory> {
     Ok(port)
 }
 
-/// Prints the calls that the two cores made of the lock, with its answers.
+/// Prints the two cores' calls of the lock, with its answers.
 pub fn handed_over(rt: &impl Print, alloc: Global) -> Result<(), &'static str> {
     let plan = bus_plan(alloc).map_err(|_| "the plan is refused")?;
     let port = served(alloc, &plan).map_err(|_| "memory")?;

@@ -1,4 +1,4 @@
-//! Programs that use the crates of this repository, one in each module. `docs/LIBRARY.md` leads through them.
+//! Programs that use the crates of this repository, one in each module (see `docs/LIBRARY.md`).
 #![tactic(auto)]
 
 mod engine;

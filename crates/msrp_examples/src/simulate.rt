@@ -20,7 +20,7 @@ pub fn bus_plan(alloc: Global) -> Result<Plan, PlanFault> {
     builder.finish().map_err(|refused| refused.1)
 }
 
-/// Simulates the plan, core 1 before core 0 in each tick, and writes its trace with the lengths of queues.
+/// Simulates the plan, core 1 first in each tick, and writes its trace with the queue lengths.
 pub fn simulated<W: Write>(alloc: Global, out: &mut W) -> Result<(), &'static str> {
     let plan = bus_plan(alloc).map_err(|_| "the plan is refused")?;
     let trace = simulate(alloc, &plan, &Order::Desc).map_err(|_| "memory")?;

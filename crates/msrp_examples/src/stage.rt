@@ -1,4 +1,4 @@
-//! Runs a plan on a thread for each core, with work of one's own beside each unit of work of a job.
+//! Runs a plan on a thread for each core, with your own work in each unit of work of a job.
 
 use msrp_board::{Board, BoardSeat};
 use msrp_core::Machine;
@@ -16,7 +16,7 @@ use std::thread::Threads;
 const PLAN: &str =
     "msrp,1\ncores,2\nticks,8\nresource,bus\ntask,sensor,0,8,8,0\nop,lock,bus\nop,run,1\nop,unlock,bus\ntask,motor,1,8,8,0\nop,lock,bus\nop,run,2\nop,unlock,bus\n";
 
-/// Does a piece of work for each unit of work of a job. Here the work is to count.
+/// Does a piece of work for each unit of work of a job; here it counts.
 #[derive(Drop)]
 struct Payload {
     done: AtomicU64,
@@ -38,7 +38,7 @@ impl Stage for Payload {
     }
 }
 
-/// Runs the plan on two threads, and prints how many rows its trace has and how many units of work were done.
+/// Runs the plan on two threads; prints the number of rows and of units of work done.
 pub fn counted<T: Threads + Wait + Sync>(
     rt: &impl Print,
     threads: &T,

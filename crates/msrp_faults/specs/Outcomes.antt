@@ -23,7 +23,7 @@ abbrev pub run_fault : RunError → CliFault
 run_fault U1 = Memory
 run_fault U2 = Threads
 
--- a trace's text that gave no row, as a fault of the program; a reader that has refused is asked no more
+-- a trace's text that gave no row, as a fault of the program; a refused reader isn't asked again
 abbrev pub trace_fault_of : TraceError → CliFault
 trace_fault_of (trace.At fault number) = Trace (trace_code_of fault) number
 trace_fault_of trace.Read = Read
@@ -48,36 +48,36 @@ is_plan_code code = is_within 1 16 code
 abbrev pub is_trace_code : ℕ → Bool
 is_trace_code code = is_within 1 8 code
 
--- the faults that the reading of a plan's text may end in
+-- the faults of reading a plan's text
 abbrev pub is_plan_fault : CliFault → Bool
 is_plan_fault (Plan code number) = is_plan_code code
 is_plan_fault Memory = true
 is_plan_fault Read = true
 is_plan_fault _ = false
 
--- the faults that the reading of a trace's text may end in
+-- the faults of reading a trace's text
 abbrev pub is_trace_fault : CliFault → Bool
 is_trace_fault (Trace code number) = is_trace_code code
 is_trace_fault Memory = true
 is_trace_fault Read = true
 is_trace_fault _ = false
 
--- the faults that a simulation of a plan's text may end in
+-- the faults of simulating a plan's text
 abbrev pub is_sim_fault : CliFault → Bool
 is_sim_fault Write = true
 is_sim_fault fault = is_plan_fault fault
 
--- the faults that an audit of texts may end in
+-- the faults of auditing texts
 abbrev pub is_audit_fault : CliFault → Bool
 is_audit_fault fault = is_sim_fault fault || is_trace_fault fault
 
--- the faults that a picture of texts may end in
+-- the faults of making a picture from texts
 abbrev pub is_view_fault : CliFault → Bool
 is_view_fault Usage = true
 is_view_fault Write = true
 is_view_fault fault = is_plan_fault fault || is_trace_fault fault
 
--- what is answered to a text that was written, or a write fault where the sink failed
+-- this answer to a written text, or a write fault if the sink failed
 abbrev pub answered : {W : Type 0} → Result ℕ CliFault → Sink W → Result ℕ CliFault
 answered answer new = if sink_failed new then Err Write else answer
 

@@ -1,4 +1,4 @@
-//! What is answered in place of an output, and the exit status.
+//! What a program answers in place of an output, and the exit status.
 
 ghost use Rattle.std.specs.Prelude.{◌≡◌};
 ghost use Rattle.msrp_faults.specs.Outcomes.{fault_of, run_fault, status_of, trace_fault_of};
@@ -10,8 +10,8 @@ use msrp_trace::TraceError;
 use std::alloc::{AllocError, AllocFailed};
 use thiserror::Error;
 
-/// Why a program did not do what it was asked for. The text of each is the line on standard error, after the name of the program, a colon
-/// and a space.
+/// Why a program didn't do its task. The text of each is its line on standard error, after the
+/// program's name, a colon and a space.
 #[derive(Clone, Copy, Debug, Error, PartialEq, Eq)]
 pub enum CliFault {
     /// The plan is refused: the number after P of the code, and the record, counted from 1.
@@ -20,16 +20,16 @@ pub enum CliFault {
     /// The trace is refused: the number after R of the code, and the record, counted from 1.
     #[error("trace: R{code} at record {number}")]
     Trace { code: u32, number: u32 },
-    /// The words of the command line are no command, or ask for what the plan doesn't have.
+    /// The arguments are no command, or ask for what the plan doesn't have.
     #[error("usage")]
     Usage,
-    /// Memory was refused.
+    /// Out of memory.
     #[error("memory")]
     Memory,
-    /// A thread was refused.
+    /// A thread couldn't be started.
     #[error("threads")]
     Threads,
-    /// A read failed, or a file could not be opened.
+    /// A read failed, or a file couldn't be opened.
     #[error("read fault")]
     Read,
     /// A write failed.
@@ -65,7 +65,7 @@ impl From<TraceError> for CliFault {
                 number: record,
             },
             TraceError::Memory => CliFault::Memory,
-            // A reader that has refused is asked no more.
+            // A reader that has refused isn't asked again.
             TraceError::Read | TraceError::Failed => CliFault::Read,
         }
     }
@@ -122,8 +122,7 @@ impl From<RunError> for CliFault {
     }
 }
 
-/// The exit status of an outcome: 2 for what is refused, 3 for usage, 4 for memory and threads, 5 for reads
-/// and writes.
+/// The exit status: 2 for a refused text, 3 usage, 4 memory and threads, 5 reads and writes.
 pub fn exit_of(outcome: &Result<u8, CliFault>) -> u8
     ensures { result ≡ status_of outcome.now }
 {

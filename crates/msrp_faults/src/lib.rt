@@ -1,4 +1,4 @@
-//! What the engines and the programs answer in place of an output, the exit status, and how a text is written with either.
+//! What engines and programs answer: an exit status or a fault, and how a text is written with it.
 #![tactic(auto)]
 
 mod faults;

@@ -1,4 +1,4 @@
-//! Texts that are gathered in memory, or written in one piece.
+//! Texts that are made in memory, or written in one piece.
 ghost use Rattle.std.specs.Prelude.{◌≡◌};
 ghost use Rattle.msrp_plan.specs.Common.{true, false, IfOk, IfErr, Wrote, sink_failed};
 ghost use Rattle.msrp_faults.specs.Outcomes.{answered};
@@ -8,7 +8,7 @@ use crate::faults::CliFault;
 use msrp_plan::bytes::Sink;
 use std::io::Write;
 
-/// The text that was gathered in memory. A write into memory fails where it is refused.
+/// The text in memory. A write into memory fails if memory runs out.
 pub fn gathered_text(text: Sink<Vec<u8>>) -> Result<Vec<u8>, CliFault>
     ensures whole { IfOk result (λ all. (all ≡ sink_inner text) × (sink_failed text ≡ false)) }
     ensures memory { IfErr result (λ fault. (fault ≡ CliFault.Memory) × (sink_failed text ≡ true)) }
@@ -19,7 +19,7 @@ pub fn gathered_text(text: Sink<Vec<u8>>) -> Result<Vec<u8>, CliFault>
     Ok(text.into_inner())
 }
 
-/// Writes a text in one piece, and gives this answer to it, or a write fault.
+/// Writes a text in one piece, and returns this answer, or a write fault.
 pub fn write_answer<W: Write>(
     out: &mut Sink<W>,
     text: &[u8],

@@ -1,4 +1,4 @@
-//! Files that are opened again after a fault.
+//! Files that are opened again after a fault, to explain it.
 
 use msrp_cli::STANDARD;
 use msrp_plan::bytes::{BYTE_LIMIT, Source};
@@ -6,10 +6,10 @@ use std::fs::File;
 use std::io::{ErrorKind, Read};
 use std::{fs, io};
 
-// Where the system has standard input as a file.
+// The path under which the system has standard input as a file.
 const STANDARD_FILE: &str = "/dev/stdin";
 
-/// The bytes of a regular file, from its start. What came through a pipe is gone.
+/// The bytes of a regular file, from its start. What came through a pipe is lost.
 pub(crate) fn read_again(rt: &HostRuntime, path: &str) -> Option<Source<File>> {
     let path = if path == STANDARD {
         STANDARD_FILE
@@ -25,7 +25,7 @@ pub(crate) fn read_again(rt: &HostRuntime, path: &str) -> Option<Source<File>> {
 // Reads the first byte of a file.
 fn unopened(rt: &HostRuntime, path: &str) -> io::Result<()> {
     let found = fs::metadata(rt, path)?;
-    // The opening of a pipe would wait for its writer.
+    // Opening a pipe would wait for its writer.
     if !found.is_file() && !found.is_dir() {
         return Ok(());
     }

@@ -1,4 +1,4 @@
-//! The hint on an outcome.
+//! The hint for a person that follows the line of an outcome.
 
 use crate::files::{failure, read_again};
 use crate::refusals::{plan_reason, trace_reason};
@@ -7,18 +7,17 @@ use msrp_faults::CliFault;
 use msrp_text::read_plan;
 use std::fmt::{self, Formatter, Write};
 
-/// The hint where an argument isn't UTF-8, and so no command is known.
+/// The hint if an argument isn't UTF-8, so no command is known.
 pub const NOT_UTF8: &str = "error: an argument isn't UTF-8\n";
 
-/// The paths of a command's texts, as they were given. As a text they are the command that explains
-/// the texts.
+/// The paths of a command's texts, as given; printed, they are the command that explains them.
 #[derive(Clone, Copy, Debug)]
 pub struct Paths<'a> {
     pub plan: &'a str,
     pub trace: Option<&'a str>,
 }
 
-// A path as one word, in quotes where it has other characters than paths mostly have.
+// A path as one word, in quotes if it has unusual characters.
 #[derive(Clone, Copy)]
 struct Word<'a>(&'a str);
 
@@ -46,7 +45,7 @@ impl fmt::Display for Paths<'_> {
     }
 }
 
-// What a text is called.
+// What a text is called in a hint.
 fn name_of(path: &str) -> &str {
     if path == STANDARD { "<stdin>" } else { path }
 }
@@ -63,7 +62,7 @@ fn unread(rt: &HostRuntime, paths: Paths<'_>) -> Result<String, CliFault> {
     Ok(String::from_str(rt.alloc(), words)?)
 }
 
-// Why the plan, or the trace if there is one, is refused, if all can be read again.
+// Why the plan is refused, or else the trace, if all texts can be read again.
 fn reason(rt: &HostRuntime, paths: Paths<'_>) -> Result<Option<String>, CliFault> {
     let alloc = rt.alloc();
     let Some(mut plan) = read_again(rt, paths.plan) else {
@@ -81,8 +80,7 @@ fn reason(rt: &HostRuntime, paths: Paths<'_>) -> Result<Option<String>, CliFault
     }
 }
 
-/// What is added to an outcome of a command on these texts, in lines; nothing where there is
-/// nothing to add.
+/// The lines added to an outcome of a command on these texts; empty if there is nothing to add.
 pub fn hint_on(
     rt: &HostRuntime,
     outcome: &Result<u8, CliFault>,

@@ -1,8 +1,8 @@
 //! What follows the line of a fault on standard error, for a person: the system's reason, what is
 //! wrong with a refused text, or the command that explains a faulty row.
 //!
-//! [`are_wanted`] says whether that is written, and [`hint_on`] makes it. A refused text is read
-//! again for it. The texts are tested, and not proved.
+//! [`are_wanted`] says whether it is written, and [`hint_on`] makes it from the refused text, read
+//! again. The texts are tested, not proved.
 #![tactic(auto)]
 
 mod files;

@@ -1,4 +1,4 @@
-//! Why a text is refused, in words. It has been changed since where it isn't any more.
+//! Why a text is refused, in words. If it isn't refused any more, it has changed since.
 
 use csv::ByteRecord;
 use msrp_advice::RefusedPlan;
@@ -12,7 +12,7 @@ use msrp_why::RefusedRecord;
 use std::alloc::{AllocError, Global};
 use std::io::Read;
 
-// The first records of a text, at most so many.
+// The first records of a text, `most` at most.
 fn first_records(alloc: Global, text: &[u8], most: u32) -> Result<Vec<ByteRecord>, CliFault> {
     let mut reader = RecordReader::new(alloc, text);
     let mut records = Vec::new(alloc);
@@ -27,7 +27,7 @@ fn first_records(alloc: Global, text: &[u8], most: u32) -> Result<Vec<ByteRecord
     Ok(records)
 }
 
-// Why a record of a plan of that name is refused, which follows these.
+// Why a record that follows these is refused in the plan of that name.
 fn plan_words(
     alloc: Global,
     name: &str,
@@ -48,7 +48,7 @@ fn plan_words(
     format!(in alloc; "{words}")
 }
 
-/// Why a plan of that name is refused.
+/// Why the plan of that name is refused.
 pub(crate) fn plan_reason<P: Read>(
     alloc: Global,
     name: &str,
@@ -70,7 +70,7 @@ pub(crate) fn plan_reason<P: Read>(
     Ok(Some(plan_words(alloc, name, text, fault, number, before, row)?))
 }
 
-// Why a record is refused, which begins in that line, where it is known.
+// Why a record is refused that begins in that line, if the line is known.
 fn record_reason(
     alloc: Global,
     name: &str,
@@ -92,7 +92,7 @@ fn record_reason(
     Ok(Some(format!(in alloc; "{name}: {words}")?))
 }
 
-// Why the first refused record is refused that a reader has left.
+// Why the first refused record that a reader has left is refused.
 fn rows_reason<T: Read>(
     alloc: Global,
     name: &str,
@@ -115,7 +115,7 @@ fn rows_reason<T: Read>(
     Ok(None)
 }
 
-/// Why a trace of that name is refused.
+/// Why the trace of that name is refused.
 pub(crate) fn trace_reason<T: Read>(
     alloc: Global,
     name: &str,

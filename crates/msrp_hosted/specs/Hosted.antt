@@ -1,4 +1,4 @@
--- A run on the threads of its caller.
+-- A run on its caller's threads.
 use Rattle.std.specs.Prelude.{◌≡◌}
 use Rattle.msrp_plan.specs.Common.{ℕ, List, [], length, slice_index_or, PlanModel}
 use Rattle.msrp_board.specs.Seats.{BoardModel}
@@ -6,7 +6,7 @@ use Rattle.msrp_merge.specs.declared.logs.Turn.{Turn}
 use Rattle.msrp_hosted.specs.declared.steps.CoreStep.{CoreStep}
 use Rattle.msrp_hosted.specs.declared.steps.CoreStep.TheVariants.{Waiting, Ended}
 
--- a core: whose it is, its turns so far, and what it does now
+-- a core: its number, its turns so far, and what it is doing
 pub record HostedCoreModel : Type 0 where
   pub plan : PlanModel
   pub core : ℕ
@@ -14,14 +14,14 @@ pub record HostedCoreModel : Type 0 where
   pub turns : List Turn
   pub step : CoreStep
 
--- a run: how many of its cores were handed out, and the turns of those that were joined, cores rising
+-- a run: the number of cores handed out, and the turns of the joined ones, in rising order
 pub record HostedRunModel : Type 0 where
   pub plan : PlanModel
   pub board : BoardModel
   pub handed : ℕ
   pub joined : List (List Turn)
 
--- the next core of a run that is handed out: it waits for tick 0
+-- the next core to be handed out: it waits for tick 0
 abbrev pub new_core : HostedRunModel → HostedCoreModel
 new_core run = record { plan = run.plan; core = run.handed; board = run.board; turns = []; step = Waiting }
 
@@ -30,13 +30,13 @@ pub record IsOfRun (run : HostedRunModel) (core : HostedCoreModel) : Type 0 wher
   pub plan : core.plan ≡ run.plan
   pub board : core.board ≡ run.board
 
--- all cores were handed out, and this is the next to be joined, and has ended
+-- all cores were handed out; this one is the next to be joined, and has ended
 pub record CanJoin (run : HostedRunModel) (core : HostedCoreModel) : Type 0 where
   pub all : run.handed ≡ run.plan.cores
   pub next : core.core ≡ length run.joined
   pub ended : core.step ≡ Ended
 
--- a run that has ended: the turns of each core, cores rising
+-- a run that has ended: the turns of each core, in rising order
 pub record SettledRunModel : Type 0 where
   pub plan : PlanModel
   pub turns : List (List Turn)

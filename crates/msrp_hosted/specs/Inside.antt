@@ -1,4 +1,4 @@
--- What the fields of a run and of its cores keep.
+-- What the fields of a run and of its cores hold.
 use Rattle.std.specs.Prelude.{◌≡◌, ◌+◌, ◌<◌, ◌≤◌}
 use Rattle.msrp_plan.specs.Common.{ℕ, List, [], Some, map, slice_index_or, vec_capacity, PlanModel, IsPlan}
 use Rattle.std.specs.Vec.Iter.{into_iter_items, into_iter_len}
@@ -19,7 +19,7 @@ use Rattle.msrp_hosted.specs.declared.cores.HostedCore.TheInside.{Inside as Core
 use Rattle.msrp_hosted.specs.declared.run.HostedRun.TheInside.{Inside as RunInside}
 use Rattle.msrp_hosted.specs.declared.settled.SettledRun.TheInside.{Inside as SettledInside}
 
--- what a core keeps while it does this: it is at work, in a turn, or has ended
+-- a core's fields while it does this: it is at work, in a turn, or has ended
 abbrev pub Keeps : CoreStep → BoardModel → MachineModel → LogModel → SeatModel → Type 0
 Keeps Waiting board m log seat = IsAtWork board m.plan m.core m log seat
 Keeps InTurn board m log seat = IsInTurn board m.plan m.core m log seat
@@ -42,7 +42,7 @@ pub record IsHandingOut (board : BoardModel) (handed : ℕ) (rest : SeatModel) (
   pub others : HasOthers board handed rest
   pub none : logs ≡ []
 
--- once all are out the cores are let in, and the seat has the books of those that were joined
+-- once all are out the cores are let in, and the seat has the books of the joined ones
 pub record IsOpened (board : BoardModel) (plan : PlanModel) (rest : SeatModel) (logs : List LogModel) : Type 0 where
   pub opened : HasRest board plan.cores Opened rest
   pub worked : AllWorked plan logs rest

@@ -18,7 +18,7 @@ use std::sync::Arc;
 
 /// A core of a run: its machine, its log, and its seat on the run's board.
 ///
-/// One thread drives it at a time. None of its calls waits for another thread, takes a lock or takes memory.
+/// One thread drives it at a time. No call waits for another thread, takes a lock or allocates.
 #[derive(Drop)]
 pub struct HostedCore<'a> {
     pub(crate) machine: Machine<'a>,
@@ -48,14 +48,14 @@ impl<'a> HostedCore<'a> {
         self.machine.core()
     }
 
-    /// What the core does now.
+    /// What the core is doing.
     pub fn step(&self) -> CoreStep
         ensures { result ≡ self.now.step }
     {
         self.step
     }
 
-    // One look at the board by a core that waits.
+    // One look at the board, for a waiting core.
     fn look(&mut self) -> Turned
         requires { self.old.step ≡ Step.Waiting }
         ensures waits { result ≡ Answer.Waits → self.new ≡ self.old }
@@ -81,8 +81,8 @@ impl<'a> HostedCore<'a> {
         }
     }
 
-    /// Looks once whether the core is let into its tick, and makes its turn where it is. The core is in the turn until
-    /// [`arrive`](HostedCore::arrive): what its job does in this tick is done before that.
+    /// Looks once whether the core is let into its tick and, if so, makes its turn. The core is in
+    /// the turn until [`arrive`](HostedCore::arrive): do the job's work in between.
     pub fn turn(&mut self) -> Turned
         ensures waits { result ≡ Answer.Waits → (self.old.step ≡ Step.Waiting) × (self.new ≡ self.old) }
         ensures turn { (turn : TurnAt) → result ≡ Answer.Turn turn → (self.old.step ≡ Step.Waiting) × (self.new ≡ record self.old { turns = self.old.turns ++ turn ∷ []; step = Step.InTurn }) }
@@ -97,7 +97,6 @@ impl<'a> HostedCore<'a> {
         }
     }
 
-    // Ends the turn.
     fn leave(&mut self)
         requires { self.old.step ≡ Step.InTurn }
         ensures { (self.new ≡ record self.old { step = Step.Waiting }) ⊎ (self.new ≡ record self.old { step = Step.Ended }) }
@@ -113,8 +112,8 @@ impl<'a> HostedCore<'a> {
         };
     }
 
-    /// Ends the core's turn, and answers whether there was one to end. Once each core has ended its turn of this tick they are let into the
-    /// next.
+    /// Ends the core's turn; false if there is none to end. Once each core has ended its turn of
+    /// this tick, all are let into the next.
     pub fn arrive(&mut self) -> bool
         ensures answer { (result ≡ true) ↔ (self.old.step ≡ Step.InTurn) }
         ensures arrived { result ≡ true → (self.new ≡ record self.old { step = Step.Waiting }) ⊎ (self.new ≡ record self.old { step = Step.Ended }) }

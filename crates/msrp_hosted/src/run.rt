@@ -1,4 +1,4 @@
-//! The cores of a run, as they are handed out and joined.
+//! A hosted run, from handing out its cores to joining them all.
 ghost use Rattle.std.specs.Prelude.{◌≡◌, ◌↔◌, ◌+◌, ◌<◌, ◌++◌, ◌∷◌};
 ghost use Rattle.msrp_plan.specs.Common.{[], Err, Some, IfOk, IfErr, length, true, false};
 ghost use Rattle.msrp_board.specs.declared.books.Conductor.TheVariants.{Opened, Unopened};
@@ -19,17 +19,17 @@ use std::marker::Model;
 use std::sync::Arc;
 use std::vec::IntoIter;
 
-/// A run of a plan, whose cores are handed out and joined.
+/// A run of a plan that hands out its cores and joins them.
 #[derive(Drop)]
 pub struct HostedRun<'a> {
     plan: &'a Plan,
     board: Arc<Board, Global>,
-    // What the cores don't have: the books of those that aren't handed out or were joined, and the conductor's. There is one between two calls.
+    // The books of cores not handed out or joined, and the conductor's; there between two calls.
     rest: Option<BoardSeat>,
-    // How many cores were handed out, and what the others begin with.
+    // The number of cores handed out, and the parts of the others.
     handed: u32,
     parts: IntoIter<CoreParts<'a>>,
-    // Of the cores that were joined.
+    // The logs of the joined cores.
     logs: Vec<CoreLog>,
 }
 
@@ -53,7 +53,7 @@ pub enum NoCore {
     Memory,
 }
 
-// The cores are let in once the last of them is handed out.
+// Lets the cores in once the last one is handed out.
 fn open_at_last(board: &Board, rest: &mut BoardSeat, last: bool)
     requires board { rest.old.board ≡ board.now }
     requires unopened { rest.old.conductor ≡ Some Unopened }
@@ -66,8 +66,8 @@ fn open_at_last(board: &Board, rest: &mut BoardSeat, last: bool)
 }
 
 impl<'a> HostedRun<'a> {
-    /// A run before its first core is handed out. The levels are those of the plan. Here all memory is taken that the run and its cores need
-    /// until the last one is joined.
+    /// A run before its first core is handed out. The levels are the plan's. Allocates all the
+    /// memory that the run and its cores need until the last one is joined.
     pub fn new(
         alloc: Global,
         plan: &'a Plan,
@@ -77,7 +77,7 @@ impl<'a> HostedRun<'a> {
         ensures plan { IfOk result (λ run. run.plan ≡ plan.now) }
         ensures none { IfOk result (λ run. (run.handed ≡ 0) × (run.joined ≡ [])) }
     {
-        // Read so that the plan is known to be an accepted one, which has a core.
+        // This read proves that the plan is an accepted one, which has a core.
         let _accepted = plan.tasks();
         let Ok((board, rest)) = Board::new(alloc, plan.cores(), plan.resources(), plan.ticks())
         else {
@@ -105,7 +105,7 @@ impl<'a> HostedRun<'a> {
         self.handed == self.plan.cores()
     }
 
-    /// Hands out the next core, cores rising. The last one lets all of them into tick 0.
+    /// Hands out the next core, in rising order. The last one lets all of them into tick 0.
     pub fn next_core(&mut self) -> Result<HostedCore<'a>, NoCore>
         ensures next { IfOk result (λ core. core ≡ new_core self.old) }
         ensures handed { IfOk result (λ _. self.new ≡ record self.old { handed = self.old.handed + 1 }) }
@@ -121,7 +121,7 @@ impl<'a> HostedRun<'a> {
         Ok(self.hand_out(board))
     }
 
-    // Hands out the next core with its own owner of the board.
+    // Hands out the next core, as another owner of the board.
     fn hand_out(&mut self, board: Arc<Board, Global>) -> HostedCore<'a>
         requires left { self.old.handed < self.old.plan.cores }
         requires board { board.value ≡ self.old.board }
@@ -154,7 +154,6 @@ impl<'a> HostedRun<'a> {
             && core.step() == CoreStep::Ended
     }
 
-    // Takes back a core that can be joined.
     fn take_back(&mut self, core: HostedCore<'a>)
         requires run { IsOfRun self.old core }
         requires can { CanJoin self.old core }
@@ -170,13 +169,14 @@ impl<'a> HostedRun<'a> {
         let (Some(seat), Some(rest)) = (seat, self.rest.take()) else {
             unreachable!()
         };
-        // Read so that what every seat keeps is known of this one: its core is one of the board's.
+        // This read proves what holds of every seat: its core is one of the board's.
         let _conductor = seat.conductor();
         self.rest = Some(self.board.join(seat, rest));
         self.logs.push_reserved(log);
     }
 
-    /// Joins a core of this run that has ended, cores rising. Where it can't be joined yet it is given back, and nothing has changed.
+    /// Joins a core of this run that has ended, in rising order. One that can't be joined yet is
+    /// given back, and nothing has changed.
     pub fn join(&mut self, core: HostedCore<'a>) -> Result<(), HostedCore<'a>>
         requires { IsOfRun self.old core }
         ensures joined { IfOk result (λ _. CanJoin self.old core.entry × (self.new ≡ record self.old { joined = self.old.joined ++ core.entry.turns ∷ [] })) }
@@ -189,7 +189,8 @@ impl<'a> HostedRun<'a> {
         Ok(())
     }
 
-    /// Settles the run once all its cores were joined; before that it is given back. It takes no memory.
+    /// Settles the run after all its cores are joined; before that it is given back. Allocates
+    /// nothing.
     pub fn settle(self) -> Result<SettledRun<'a>, HostedRun<'a>>
         ensures settled { IfOk result (λ settled. (self.entry.handed ≡ self.entry.plan.cores) × (length self.entry.joined ≡ self.entry.plan.cores) × (settled ≡ record { plan = self.entry.plan; turns = self.entry.joined })) }
         ensures early { IfErr result (λ back. back ≡ self.entry) }
@@ -206,7 +207,7 @@ impl<'a> HostedRun<'a> {
             parts,
             logs,
         } = self;
-        // Read so that the plan is known to be an accepted one.
+        // This read proves that the plan is an accepted one.
         let _accepted = plan.tasks();
         let board = match Arc::try_unwrap(board) {
             Ok(board) => board,

@@ -1,4 +1,4 @@
-//! A run that has ended.
+//! A run that has ended, and its trace.
 ghost use Rattle.std.specs.Prelude.{◌≡◌, ◌<◌};
 ghost use Rattle.msrp_plan.specs.Common.{ℕ, List, IfOk, true, carries_ahead, log_of, IsPlan, IsRun};
 ghost use Rattle.msrp_plan.specs.Laws.{KeepsLaws};
@@ -13,7 +13,7 @@ use msrp_plan::{Memory, Plan, Trace};
 use std::alloc::Global;
 use std::marker::Model;
 
-/// A run whose cores were all joined.
+/// A run after all its cores were joined.
 #[derive(Drop)]
 pub struct SettledRun<'a> {
     pub(crate) plan: &'a Plan,
@@ -41,8 +41,8 @@ impl<'a> SettledRun<'a> {
         self.plan
     }
 
-    /// The rows of all cores in one trace, which is a legal run of the plan, whatever way the threads' steps interleaved. It is [`Memory`] only where memory
-    /// was refused.
+    /// The rows of all cores in one trace: a legal run of the plan, for any interleaving of the
+    /// threads' steps. [`Memory`] only if memory runs out.
     pub fn trace(&self, alloc: Global) -> Result<Trace, Memory>
         ensures run { IfOk result (λ trace. IsRun self.now.plan trace.rows.items) }
         ensures laws { IfOk result (λ trace. KeepsLaws self.now.plan trace.rows.items) }
@@ -50,7 +50,8 @@ impl<'a> SettledRun<'a> {
         // The rows of each core are those of its turns.
         ensures rows { IfOk result (λ trace. (c : ℕ) → c < self.now.plan.cores → log_of c trace.rows.items ≡ rows_of (turns_at self.now.turns c)) }
 
-        // The turns of a tick stand by rank: those without a place first, by core, then the others by resource and place.
+        // The turns of a tick are by rank: those without a place by core, then by resource and
+        // place.
         ensures order { IfOk result (λ trace. (turns : List Turn) × (trace.rows.items ≡ rows_of turns) × IsMerged self.now.plan.cores self.now.plan.ticks (turns_at self.now.turns) turns) }
         ensures aheads { IfOk result (λ trace. carries_ahead trace.rows.items ≡ true) }
     {

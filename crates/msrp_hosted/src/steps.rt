@@ -1,8 +1,8 @@
-//! What a core does, and what a look at the board came to.
+//! The state of a core between two calls, and the result of its look at the board.
 
 use msrp_merge::Turn;
 
-/// What a core does between two calls.
+/// What a core is doing between two calls.
 #[derive(Clone, Copy, Debug, PartialEq, Eq)]
 pub enum CoreStep {
     /// It waits for its tick.
@@ -13,14 +13,14 @@ pub enum CoreStep {
     Ended,
 }
 
-/// What [`turn`](crate::HostedCore::turn) came to.
+/// The result of [`turn`](crate::HostedCore::turn).
 #[derive(Clone, Copy, Debug, PartialEq, Eq)]
 pub enum Turned {
-    /// The core was not let in: nothing has changed.
+    /// The core wasn't let in; nothing has changed.
     Waits,
     /// The core was let into its tick, and this is its turn.
     Turn(Turn),
-    /// The core is in a turn already: nothing has changed.
+    /// The core is already in a turn; nothing has changed.
     InTurn,
     /// The core has no tick left.
     Ended,

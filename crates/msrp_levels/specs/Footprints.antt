@@ -51,7 +51,7 @@ passed place Run uses = uses
 passed place (Lock r) uses = set uses r.0 (with_lock place (use_at uses r.0))
 passed place (Unlock r) uses = set uses r.0 (with_unlock place (use_at uses r.0))
 
--- the unit's resource is one of these, and the units that were passed stand behind the place
+-- the unit's resource is one of these, and the units passed so far are after the index
 abbrev pub CanPass : ℕ → Op → List Use → Type 0
 CanPass place Run uses = ⊤
 CanPass place (Lock r) uses = (r.0 < length uses) × (place < (use_at uses r.0).past_unlock)

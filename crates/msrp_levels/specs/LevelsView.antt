@@ -4,7 +4,7 @@ use Rattle.msrp_plan.specs.Common.{length, map, range_with_len, PlanModel, level
 use Rattle.msrp_levels.specs.Usage.{AreUsages}
 use Rattle.msrp_levels.specs.declared.levels.Levels.TheInside.{Inside}
 
--- the plan that they are of
+-- the plan of the levels
 abbrev pub levels_view : Inside → PlanModel
 levels_view l = l.plan.now
 

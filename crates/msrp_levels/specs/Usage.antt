@@ -6,7 +6,7 @@ use Rattle.msrp_levels.specs.Users.{users}
 use Rattle.msrp_levels.specs.declared.usage.CoreUse.{CoreUse}
 use Rattle.msrp_levels.specs.declared.usage.Usage.{Usage}
 
--- with one user more, whose longest section is this one
+-- with one more user, whose longest section is this one
 abbrev pub with_user : ℕ → CoreUse → CoreUse
 with_user n u = record { used = true; section = max u.section n }
 
@@ -21,18 +21,18 @@ is_other_user cores c d = not (d == c) && (core_use_at cores d).used
 abbrev pub spin_among : List CoreUse → ℕ → ℕ
 spin_among cores c = sum_by (λ d. 1 + (core_use_at cores d).section) (filter (is_other_user cores c) (range_with_len 0 (length cores)))
 
--- no section is longer than the units of a task may be
+-- no section is longer than a task's most units
 abbrev pub IsShort : CoreUse → Type 0
 IsShort u = u.section ≤ most_units
 
--- what is stored of a resource is what the plan says
+-- the stored use of a resource is what the plan says
 pub record IsUsage (plan : PlanModel) (g : ℕ) (u : Usage) : Type 0 where
   pub users : map (λ t. t.0) u.users.items ≡ users plan g
   pub ceiling : u.ceiling ≡ local_ceiling plan g
   pub cores : map (λ x. x.section) u.cores.items ≡ map (section plan g) (range_with_len 0 plan.cores)
   pub spins : u.spins.items ≡ map (spin_bound plan g) (range_with_len 0 plan.cores)
 
--- what is stored of the first resources is what the plan says
+-- the stored use of the first resources is what the plan says
 pub record AreUsages (plan : PlanModel) (n : ℕ) (usages : List Usage) : Type 0 where
   pub size : length usages ≡ n
   pub each : (g : ℕ) (d : Usage) → g < n → IsUsage plan g (slice_index_or usages g d)

@@ -1,4 +1,4 @@
-//! What each task does with each resource, from one pass over its units.
+//! What each task does with each resource, found in one pass over its units from the last one back.
 ghost use Rattle.std.specs.Prelude.{◌≡◌, ◌<◌, ◌+◌, ◌^◌};
 ghost use Rattle.msrp_plan.specs.Common.{length, map, IfOk, task_at, level_of, IsPlan, most_resources};
 ghost use Rattle.msrp_levels.specs.Footprints.{with_lock, with_unlock, CanPass, passed, uses_of, footprint_of, locks_in, longest_in};
@@ -14,12 +14,12 @@ pub(crate) struct Use {
     pub(crate) locked: bool,
     /// Its longest section on the resource, in units after the lock up to and with the unlock.
     pub(crate) longest: u32,
-    /// The place after the next unlock of the resource, as the units are passed from the last one back.
+    /// The index after the next unlock of the resource, in the backward pass.
     pub(crate) past_unlock: u32,
 }
 
 impl Use {
-    // With a lock of the resource at this place, in front of the units that were passed: a section begins.
+    // Adds a lock of the resource at this index in front: a section begins.
     fn with_lock(self, place: u32) -> Use
         requires { place < self.past_unlock }
         ensures { result ≡ with_lock place self }
@@ -31,7 +31,7 @@ impl Use {
         }
     }
 
-    // With an unlock of the resource at this place, in front of the units that were passed: a section ends.
+    // Adds an unlock of the resource at this index in front: a section ends.
     fn with_unlock(self, place: u32) -> Use
         requires { place + 1 < 2 ^ 32 }
         ensures { result ≡ with_unlock place self }
@@ -43,7 +43,7 @@ impl Use {
     }
 }
 
-/// A task as the resources see it.
+/// What a task does with the resources.
 #[derive(Clone, Copy)]
 pub(crate) struct Footprint {
     pub(crate) core: CoreId,
@@ -69,7 +69,7 @@ impl Footprint {
     }
 }
 
-// One unit more, the one at this place, in front of the units that were passed.
+// Adds the unit at this index in front.
 fn pass(uses: &mut [Use; MOST_RESOURCES], place: u32, unit: Op)
     requires { CanPass place unit uses.old }
     ensures { uses.new ≡ passed place unit uses.old }
@@ -81,7 +81,6 @@ fn pass(uses: &mut [Use; MOST_RESOURCES], place: u32, unit: Op)
     }
 }
 
-// What a task does with each resource.
 fn uses_of(plan: &Plan, task: TaskId) -> [Use; MOST_RESOURCES]
     requires plan { IsPlan plan.now }
     requires task { task.0 < length plan.now.tasks }
@@ -99,7 +98,7 @@ fn uses_of(plan: &Plan, task: TaskId) -> [Use; MOST_RESOURCES]
     uses
 }
 
-/// The tasks of a plan, in their order, as the resources see them; the levels are theirs.
+/// What each task of a plan does with the resources, with its level.
 pub(crate) fn footprints_of(
     alloc: Global,
     plan: &Plan,

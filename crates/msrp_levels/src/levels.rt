@@ -1,4 +1,4 @@
-//! The levels and ceilings of a plan.
+//! The levels, ceilings and bounds of a plan, ready to be looked up.
 ghost use Rattle.std.specs.Prelude.{◌≡◌, ◌<◌};
 ghost use Rattle.msrp_plan.specs.Common.{length, map, IfOk, task_at, level, is_global, top, section, spin_bound, out};
 ghost use Rattle.msrp_levels.specs.Usage.{IsUsage};
@@ -12,10 +12,10 @@ use msrp_plan::{CoreId, Memory, Plan, ResId, TaskId};
 use std::alloc::Global;
 use std::marker::Model;
 
-/// The preemption levels and ceilings of a plan, which of its resources are global, and the bounds that it gives.
+/// The preemption levels and ceilings of a plan, its global resources, and its bounds.
 ///
-/// All is computed once, by [`Levels::of`], in two passes over the units of each task. A reader looks up what is
-/// stored; it takes no memory. The numbers of tasks, resources and cores that a reader takes are the plan's.
+/// [`Levels::of`] computes all of them once, in two passes over each task's units. A reader looks
+/// up a stored number of one of the plan's tasks, resources or cores.
 #[derive(Drop)]
 pub struct Levels<'a> {
     plan: &'a Plan,
@@ -42,7 +42,7 @@ impl<'a> Model for Levels<'a> {
 }
 
 impl<'a> Levels<'a> {
-    /// The levels and ceilings of a plan. It is [`Memory`] only where memory was refused.
+    /// The levels and ceilings of a plan; [`Memory`] only if memory runs out.
     pub fn of(alloc: Global, plan: &'a Plan) -> Result<Levels<'a>, Memory>
         ensures { IfOk result (λ levels. levels ≡ plan.now) }
     {
@@ -60,7 +60,6 @@ impl<'a> Levels<'a> {
         })
     }
 
-    // How the plan uses a resource.
     fn usage(&self, res: ResId) -> &Usage
         requires { res.0 < length self.now.resources }
         ensures { IsUsage self.now res.0 result.now }
@@ -68,8 +67,8 @@ impl<'a> Levels<'a> {
         &self.usages[res.0 as usize]
     }
 
-    /// The preemption level of a task: 1 and the number of distinct longer relative deadlines in the plan (Baker
-    /// 1991).
+    /// The preemption level of a task: 1 plus the number of distinct longer relative deadlines in
+    /// the plan (Baker 1991; POLICY rule 5).
     pub fn level(&self, task: TaskId) -> u32
         requires { task.0 < length self.now.tasks }
         ensures { result ≡ level self.now task.0 }
@@ -85,7 +84,7 @@ impl<'a> Levels<'a> {
         self.tops[core.0 as usize]
     }
 
-    /// Whether tasks of two cores use a resource.
+    /// Whether tasks of at least two cores use a resource (POLICY rule 4).
     pub fn is_global(&self, res: ResId) -> bool
         requires { res.0 < length self.now.resources }
         ensures { result ≡ is_global self.now res.0 }
@@ -93,8 +92,8 @@ impl<'a> Levels<'a> {
         self.plan.is_global(res)
     }
 
-    /// The ceiling of a resource at a core: of a local one the highest level of its users, 0 if there is none
-    /// (Baker 1991); of a global one the highest level of the core's tasks (Gai, Lipari and Di Natale 2001).
+    /// The ceiling of a resource at a core: for a local one the highest level of its users, or 0
+    /// (Baker 1991); for a global one the core's highest level (Gai, Lipari and Di Natale 2001).
     pub fn ceiling(&self, res: ResId, core: CoreId) -> u32
         requires res { res.0 < length self.now.resources }
         requires core { core.0 < self.now.cores }
@@ -115,8 +114,8 @@ impl<'a> Levels<'a> {
         &self.usage(res).users
     }
 
-    /// The longest section on a resource of the tasks of a core, in units after the lock up to and with the unlock;
-    /// 0 where none of them uses it.
+    /// The longest section on a resource of a core's tasks, in units from after the lock to the
+    /// unlock; 0 if none of them uses it.
     pub fn section(&self, res: ResId, core: CoreId) -> u32
         requires res { res.0 < length self.now.resources }
         requires core { core.0 < self.now.cores }
@@ -125,8 +124,8 @@ impl<'a> Levels<'a> {
         self.usage(res).cores[core.0 as usize].section
     }
 
-    /// How often a job of a core spins in one wait for a resource, at most: for each other core that uses it, one
-    /// handover and its longest section (this project's own bound).
+    /// The most spins of a job of a core in one wait for a resource: for each other core that uses
+    /// it, one handover and its longest section (this project's own bound).
     pub fn spin_bound(&self, res: ResId, core: CoreId) -> u32
         requires res { res.0 < length self.now.resources }
         requires core { core.0 < self.now.cores }
@@ -135,9 +134,9 @@ impl<'a> Levels<'a> {
         self.usage(res).spins[core.0 as usize]
     }
 
-    /// How many rows a job of a task has in one outermost section after the first, at most: its units after the lock
-    /// up to and with the unlock, and for each request of a global resource one row to join the queue and as many as
-    /// it may spin; 0 where the task locks nothing (this project's own bound).
+    /// The most rows of a job of a task in one outermost section after its first row: its units
+    /// from after the lock to the unlock and, for each request of a global resource, one row to
+    /// queue and the most spins; 0 if the task locks nothing (this project's own bound).
     pub fn out(&self, task: TaskId) -> u32
         requires { task.0 < length self.now.tasks }
         ensures { result ≡ out self.now (task_at self.now task.0) }

@@ -1,8 +1,8 @@
-//! Preemption levels, ceilings of resources, and the bounds that a plan gives, each computed once.
+//! Preemption levels, ceilings of resources, and a plan's bounds, each computed once.
 //!
-//! [`Levels`] answers what the Stack Resource Policy asks of a plan (Baker 1991; for global resources Gai,
-//! Lipari and Di Natale 2001): the level of a task, the ceiling of a resource at a core, the tasks that use
-//! a resource, and how long its sections are. A reader looks up one stored number.
+//! [`Levels`] answers what the Stack Resource Policy needs to know of a plan (Baker 1991; for
+//! global resources Gai, Lipari and Di Natale 2001): a task's level, a resource's ceiling at a
+//! core, its users, and how long its sections are.
 #![tactic(auto)]
 
 mod footprints;

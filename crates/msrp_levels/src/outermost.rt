@@ -1,4 +1,4 @@
-//! How many rows a job has in one outermost section, at most.
+//! The most rows of a job in one outermost section.
 ghost use Rattle.std.specs.Prelude.{◌≡◌, ◌<◌, ◌≤◌};
 ghost use Rattle.msrp_plan.specs.Common.{length, map, Some, IfOk, task_at, out, IsPlan};
 ghost use Rattle.msrp_plan.specs.Bounds.{wait_bound};
@@ -9,8 +9,8 @@ use crate::usage::Usage;
 use msrp_plan::{CoreId, Memory, Op, Plan, TaskId};
 use std::alloc::Global;
 
-// How many rows a job of a core waits at a unit, at most: at a request of a global resource one to join the queue,
-// and as many as it may spin.
+// The most rows that a job of a core waits at a unit: at a request of a global resource, one to
+// queue and the most spins.
 fn wait_of(plan: &Plan, usages: &[Usage], core: CoreId, unit: Op) -> u32
     requires plan { IsPlan plan.now }
     requires usages { AreUsages plan.now (length plan.now.resources) usages.now }
@@ -29,7 +29,7 @@ fn wait_of(plan: &Plan, usages: &[Usage], core: CoreId, unit: Op) -> u32
     }
 }
 
-// How many resources are held after one unit more.
+// The number of held resources after one more unit.
 fn held_with(held: u32, unit: Op) -> u32
     requires { CanFollow held unit }
     ensures { result ≡ held_with_unit held unit }
@@ -41,7 +41,7 @@ fn held_with(held: u32, unit: Op) -> u32
     }
 }
 
-// How many rows the longest outermost section of a task has after its first, at most.
+// The most rows of a task's longest outermost section after its first row.
 fn out_of(plan: &Plan, usages: &[Usage], task: TaskId) -> u32
     requires plan { IsPlan plan.now }
     requires usages { AreUsages plan.now (length plan.now.resources) usages.now }
@@ -51,16 +51,16 @@ fn out_of(plan: &Plan, usages: &[Usage], task: TaskId) -> u32
     let core = plan.core_of(task);
     let mut held = 0;
     let mut rows = 0;
-    // The place of the last lock or unlock.
+    // The index of the last lock or unlock.
     let mut last = 0;
     let mut longest = 0u32;
     for place in 0..plan.units(task) {
         let unit = plan.unit(task, place);
-        // Work is a row of the section that is open, if one is: the section's next lock or unlock counts it.
+        // Work in an open section is counted by the section's next lock or unlock.
         if unit == Op::Run {
             continue;
         }
-        // The rows of the outermost section so far; outside of all, one begins here if one does.
+        // The rows of the outermost section so far; 0 outside of sections, where one may begin.
         rows = if held == 0 { 0 } else { rows + (place - last) }
             + wait_of(plan, usages, core, unit);
         longest = longest.max(rows);
@@ -70,7 +70,7 @@ fn out_of(plan: &Plan, usages: &[Usage], task: TaskId) -> u32
     longest
 }
 
-/// How many rows the longest outermost section of each task has after its first, at most.
+/// For each task the most rows of its longest outermost section after its first row.
 pub(crate) fn outs_of(alloc: Global, plan: &Plan, usages: &[Usage]) -> Result<Vec<u32>, Memory>
     requires { AreUsages plan.now (length plan.now.resources) usages.now }
     ensures { IfOk result (λ outs. outs.items ≡ map (out plan.now) plan.now.tasks) }

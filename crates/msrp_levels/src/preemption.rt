@@ -1,4 +1,4 @@
-//! Preemption levels: 1 and the number of distinct longer relative deadlines (Baker 1991).
+//! Preemption levels: 1 plus the number of distinct longer relative deadlines (Baker 1991).
 ghost use Rattle.std.specs.Prelude.{◌≡◌, ◌≤◌, ◌+◌};
 ghost use Rattle.msrp_plan.specs.Common.{nat_lt, count_by, length, map, vec_len, IfOk, TaskModel, level_of, most_tasks};
 
@@ -20,7 +20,7 @@ fn distinct_deadlines(alloc: Global, plan: &Plan) -> Result<Vec<u32>, Memory>
     Ok(deadlines)
 }
 
-// One more than how many of the deadlines are longer than this one.
+// One more than the number of deadlines longer than this one.
 fn level_among(deadlines: &[u32], deadline: u32) -> u32
     requires { length deadlines.now ≤ most_tasks }
     ensures { result ≡ count_by (nat_lt deadline) deadlines.now + 1 }

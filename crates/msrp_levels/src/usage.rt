@@ -1,4 +1,4 @@
-//! How a plan uses each of its resources, told by its tasks.
+//! How a plan uses each of its resources, found from its tasks.
 ghost use Rattle.msrp_plan.specs.Common.{length, map, IfOk, All, range_with_len, greatest, top, most_cores, most_resources};
 ghost use Rattle.std.specs.Prelude.{◌≡◌, ◌==◌, ◌<◌, ◌≤◌, ◌^◌, ◌&&◌, filter};
 ghost use Rattle.msrp_levels.specs.Footprints.{footprint_of};
@@ -13,18 +13,18 @@ use std::alloc::Global;
 pub(crate) struct CoreUse {
     /// Whether one of them uses it.
     pub(crate) used: bool,
-    /// Their longest section on it, 0 where none uses it.
+    /// Their longest section on it; 0 if none uses it.
     pub(crate) section: u32,
 }
 
 impl CoreUse {
-    // Of a core whose tasks don't use the resource.
+    // A core whose tasks don't use the resource.
     const NONE: CoreUse = CoreUse {
         used: false,
         section: 0,
     };
 
-    // One user more on the core, whose longest section is this one.
+    // Adds a user on the core, with this longest section.
     fn add_user(&mut self, section: u32)
         ensures { self.new ≡ with_user section self.old }
     {
@@ -37,11 +37,11 @@ impl CoreUse {
 #[derive(Drop)]
 pub(crate) struct Usage {
     pub(crate) users: Vec<TaskId>,
-    /// The highest level of a user, 0 where there is none.
+    /// The highest level of a user; 0 if there is none.
     pub(crate) ceiling: u32,
     /// By core.
     pub(crate) cores: Vec<CoreUse>,
-    /// By core: how often a job of it spins in one wait for the resource, at most.
+    /// By core: the most spins of its jobs in one wait for the resource.
     pub(crate) spins: Vec<u32>,
 }
 
@@ -70,8 +70,8 @@ pub(crate) fn tops_of(alloc: Global, plan: &Plan, tasks: &[Footprint]) -> Result
     Ok(tops)
 }
 
-// How often a job of a core spins in one wait, at most: for each other core that uses the resource, one
-// handover and its longest section.
+// The most spins of a core's job in one wait: a handover and the longest section of each other user
+// core.
 fn spin_among(cores: &[CoreUse], core: CoreId) -> u32
     requires few { length cores.now ≤ most_cores }
     requires short { All IsShort cores.now }
@@ -86,7 +86,7 @@ fn spin_among(cores: &[CoreUse], core: CoreId) -> u32
     spin
 }
 
-// How often a job of each core does.
+// The most spins in one wait, by core.
 fn spins_among(alloc: Global, cores: &[CoreUse]) -> Result<Vec<u32>, Memory>
     requires few { length cores.now ≤ most_cores }
     requires short { All IsShort cores.now }
@@ -100,7 +100,7 @@ fn spins_among(alloc: Global, cores: &[CoreUse]) -> Result<Vec<u32>, Memory>
 }
 
 impl Usage {
-    /// How a plan uses a resource, told by its tasks.
+    /// The use of one resource by these tasks.
     pub(crate) fn of(
         alloc: Global,
         plan: &Plan,
@@ -131,7 +131,7 @@ impl Usage {
     }
 }
 
-/// How a plan uses each of its resources, told by its tasks.
+/// The use of each resource by its tasks.
 pub(crate) fn usages_of(
     alloc: Global,
     plan: &Plan,

@@ -1,5 +1,5 @@
--- A worked merge: the logs of two cores of which one hands a resource over to the other, with the places that a board tells
--- them, the books that they fit, and the resource's history.
+-- A worked merge: the logs of two cores, one of which hands a resource to the other, with the
+-- board's places, the books that they fit, and the resource's history.
 use Rattle.std.specs.Prelude.{◌∷◌}
 use Rattle.msrp_plan.specs.Common.{ℕ, List, [], true, false, Some, None}
 use Rattle.msrp_plan.specs.declared.ids.JobId.{JobId}
@@ -55,7 +55,7 @@ books =
     ∷ book_of (step 0 1 (Ask 1) ∷ step 1 2 (Poll false) ∷ step 2 2 (Poll false) ∷ step 3 3 (Poll true) ∷ step 5 3 Leave ∷ [])
     ∷ []
 
--- a poll that read a place stands before the step that took it, whatever their cores
+-- a poll that read a place is before the step that took it, whatever their cores
 abbrev pub history : List Event
 history =
     (0, step 0 0 (Ask 0))

@@ -1,5 +1,5 @@
--- How a log keeps a turn: without its tick and core, which the log tells, and with a value in place of each part that a row of
--- its kind lacks.
+-- How a log stores a turn: without its tick and core, which the log knows, and with some value for
+-- each part that a row of its kind lacks.
 use Rattle.std.specs.Prelude.{◌∷◌}
 use Rattle.msrp_plan.specs.Common.{ℕ, suc, List, [], true, false, Option, Some, None, ahead_of_kind, job_of_kind, res_of_kind}
 use Rattle.msrp_plan.specs.Shape.{carrier_of_kind, shape_of_kind}
@@ -9,13 +9,13 @@ use Rattle.msrp_merge.specs.declared.kept.Touch.TheVariants.{Nothing, Step, Poll
 use Rattle.msrp_merge.specs.declared.logs.Place.{Place}
 use Rattle.msrp_merge.specs.declared.logs.Turn.{Turn}
 
--- a turn that touched nothing has no place
+-- a turn that used no global resource has no place
 abbrev pub place_of_touch : Touch → ℕ → Option Place
 place_of_touch Nothing number = None
 place_of_touch Step number = Some (record { number = number; polled = false })
 place_of_touch Poll number = Some (record { number = number; polled = true })
 
--- the turn of a core in a tick that is kept so
+-- the stored turn, of a core in a tick
 abbrev pub turn_of : ℕ → ℕ → Kept → Turn
 turn_of core tick e = record {
   row = record {

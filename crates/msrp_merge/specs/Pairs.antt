@@ -1,8 +1,8 @@
--- Two lists whose elements belong together, one by one.
+-- Two lists whose elements correspond, one by one.
 use Rattle.std.specs.Prelude.{◌∷◌}
 use Rattle.msrp_plan.specs.Common.{List, [], ⊤}
 
--- the lists are of one length, and each element of the one stands in R to that of the other at its place
+-- the lists are of one length, and elements at the same index are in relation R
 abbrev pub Paired : {X Y : Type 0} → (X → Y → Type 0) → List X → List Y → Type 0
 Paired R [] [] = ⊤
 Paired R [] (y ∷ ys) = ⊥

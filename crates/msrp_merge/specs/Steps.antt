@@ -25,6 +25,6 @@ pub record IsRowOfEvent (r : Row) (s : Event) : Type 0 where
   pub core : r.core.0 ≡ s.0
   pub step : IsRowOf s.1 r
 
--- the steps on each global resource are, in their order, a history that a first-in-first-out lock answers so
+-- each global resource's steps are, in order, a history with a first-in-first-out lock's answers
 abbrev pub AreServed : PlanModel → List Row → Type 0
 AreServed plan rows = (g : ℕ) → is_global plan g ≡ true → (h : List Event) × Paired IsRowOfEvent (filter (is_row_on g) rows) h × Legal (calls h)

@@ -9,7 +9,7 @@ use Rattle.msrp_board.specs.History.{is_poll}
 use Rattle.msrp_merge.specs.declared.logs.Turn.{Turn}
 use Rattle.msrp_merge.specs.Pairs.{Paired}
 
--- a core's log: its turns, oldest first, of at most so many ticks
+-- a core's log: its turns, the oldest first, for at most this many ticks
 pub record LogModel : Type 0 where
   pub core : ℕ
   pub ticks : ℕ
@@ -30,20 +30,19 @@ is_step _ = false
 abbrev pub has_place : Turn → Bool
 has_place x = is_some x.place
 
--- the row tells of the same step as an entry of its core's book: in its tick, on its resource, with its answer; an ahead that
--- it carries is the entry's
+-- the row has the tick, resource and answer of an entry of its core's book, and no other ahead
 pub record IsRowOf (e : Entry) (r : Row) : Type 0 where
   pub tick : r.tick ≡ e.tick
   pub resource : r.res ≡ Some e.res
   pub kind : r.kind ≡ kind_of_call e.call
   pub ahead : IfSome r.ahead (λ n. ahead_of_call e.call ≡ Some n)
 
--- the turn is that of an entry: its row tells of the step, and its place is the entry's, polled where the call was a poll
+-- the turn is that of an entry: the row has its step, the place is the entry's, polled if it polls
 pub record IsTurnOf (x : Turn) (e : Entry) : Type 0 where
   pub row : IsRowOf e x.row
   pub place : x.place ≡ Some (record { number = e.place; polled = is_poll e.call })
 
--- a log fits the entries of its core's book: its steps, and no other rows, carry a place, and those are in order the entries
+-- a log fits its core's book: exactly its steps have a place, and are in order the book's entries
 pub record Fits (turns : List Turn) (entries : List Entry) : Type 0 where
   pub places : AllByRecursion (λ x. has_place x ≡ is_step x.row.kind) turns
   pub steps : Paired IsTurnOf (filter has_place turns) entries

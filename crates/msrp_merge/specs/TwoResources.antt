@@ -1,4 +1,4 @@
--- A worked merge of steps on two resources in one tick: the logs of two cores, with the places that a board tells them.
+-- A worked merge of steps on two resources in a tick: two cores' logs, with the board's places.
 use Rattle.std.specs.Prelude.{◌∷◌}
 use Rattle.msrp_plan.specs.Common.{List, []}
 use Rattle.msrp_plan.specs.declared.ids.JobId.{JobId}
@@ -12,7 +12,7 @@ a = job 0 0
 abbrev b : JobId
 b = job 1 0
 
--- each core takes and releases both resources, core 0 the first one first
+-- each core takes and releases both resources, core 0 in their order
 abbrev pub logs : List LogModel
 logs =
     record {

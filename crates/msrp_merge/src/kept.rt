@@ -1,4 +1,4 @@
-//! A turn as a log keeps it, in as few bytes as it needs.
+//! A turn in a log: without its tick and core, in as few bytes as possible.
 ghost use Rattle.std.specs.Prelude.{◌≡◌};
 ghost use Rattle.msrp_plan.specs.Common.{ahead_of_kind, job_of_kind, res_of_kind};
 ghost use Rattle.msrp_merge.specs.Keeping.{place_of_touch, turn_of};
@@ -7,7 +7,7 @@ use crate::logs::{Place, Turn};
 use msrp_plan::{CoreId, JobId, Kind, ResId, Row, TaskId};
 use std::mem::size_of;
 
-/// How a turn touched a global resource.
+/// How a turn used a global resource.
 #[derive(Clone, Copy, Debug, PartialEq, Eq)]
 pub(crate) enum Touch {
     Nothing,
@@ -15,8 +15,8 @@ pub(crate) enum Touch {
     Poll,
 }
 
-/// A turn without its tick and core, which its log tells. What a row of this kind lacks stands here all the same, and is not
-/// read.
+/// A turn without its tick and core, which its log knows. A part that a row of this kind lacks has
+/// some value and isn't read.
 #[derive(Clone, Copy, Debug, PartialEq, Eq)]
 pub(crate) struct Kept {
     kind: Kind,
@@ -37,7 +37,7 @@ const NO_JOB: JobId = JobId {
 
 const NO_RES: ResId = ResId(0);
 
-// How a turn with this place touched its resource, and the number of the place.
+// How a turn with this place used its resource, and the number of the place.
 fn touch_of(place: Option<Place>) -> (Touch, u32)
     ensures { place_of_touch result.0 result.1 ≡ place }
 {

@@ -20,44 +20,44 @@ ghost use Rattle.msrp_merge.specs.Turns.{Fits, IsTurnOf, is_step, rows_of};
 ghost use Rattle.msrp_merge.specs.TwoResources as two_resources;
 ghost use Rattle.msrp_merge.specs.declared.logs.Turn.{Turn};
 
-/// The sort keeps each core's turns in their order, one in each tick, and puts those of a tick in order by rank.
+/// The sort keeps each core's turns in order, one in each tick, and orders those of a tick by rank.
 pub fn sort_keeps_each_log()
     ensures { (cores ticks : ℕ) (logs : ℕ → List Turn) → AreTurns cores ticks logs → IsMerged cores ticks logs (merged logs cores ticks) }
 {}
 
-/// Logs have but one merge: the turns of a tick are of different cores, and ranks end in the core.
+/// Logs have only one merge: a tick's turns are of different cores, and a rank ends with the core.
 pub fn merge_is_unique()
     ensures { (cores ticks : ℕ) (logs : ℕ → List Turn) (turns : List Turn) → AreTurns cores ticks logs → IsMerged cores ticks logs turns → turns ≡ merged logs cores ticks }
 {}
 
-/// Because ticks never fall along a history, the steps on a resource, in the order of the sort, are the resource's history:
-/// where each core's turns fit its book, and all turns stand in order.
+/// Ticks never fall along a history. So if each core's turns fit its book and all turns are in
+/// order, the steps on a resource, in that order, are the resource's history.
 pub fn sorted_turns_are_the_history()
     ensures { (g : ℕ) (books : ℕ → List Entry) (h : List Event) (turns : List Turn) → IsHistory g books h → IsChain IsNotLater h → Sorted InOrder turns → ((c : ℕ) → Fits (filter (is_by c) turns) (books c)) → Paired IsTurnOfEvent (filter (is_step_on g) turns) h }
 {}
 
-/// A step that is legal at its place in the history replies as the queue of its resource: where each core's rows are a run of
-/// the core, and the steps on each resource are a legal history, every row replies so.
+/// A step that is legal at its place in the history replies as its resource's queue: if each core's
+/// rows are a run and each resource's steps a legal history, every row replies so.
 pub fn legal_steps_reply()
     ensures { (plan : PlanModel) (rows : List Row) → IsPlan plan → AreInterleaved plan rows → AreServed plan rows → EachAfter (λ pre r. is_fifo_reply pre r ≡ true) [] rows }
 {}
 
-/// A step that is logged without a place fits no book.
+/// A step logged without a place fits no book.
 pub fn steps_have_places()
     ensures { (turns more : List Turn) (x : Turn) (entries : List Entry) → is_step x.row.kind ≡ true → x.place ≡ None → ¬ Fits (turns ++ x ∷ more) entries }
 {}
 
-/// An empty log fits a book without entries. A log that fits its book still does after a turn that is no step and has no
-/// place, and after a step where the book gains the step's entry.
+/// An empty log fits a book without entries. A log that fits its book still does after a turn that
+/// isn't a step and has no place, and after a step whose entry the book gains.
 pub fn logs_fit_turn_by_turn()
     ensures start { Fits [] [] }
     ensures quiet { (turns : List Turn) (entries : List Entry) (x : Turn) → Fits turns entries → x.place ≡ None → is_step x.row.kind ≡ false → Fits (turns ++ x ∷ []) entries }
     ensures step { (turns : List Turn) (entries : List Entry) (x : Turn) (e : Entry) → Fits turns entries → IsTurnOf x e → Fits (turns ++ x ∷ []) (entries ++ e ∷ []) }
 {}
 
-/// A worked merge: two logs that fit the books of a board, the history of the resource that one core hands over to the
-/// other, and the rows, in which a poll stands before the release of the same place, though its core has the higher
-/// number. Rows that hand it over a tick earlier are no rows of that history.
+/// A worked merge: two logs that fit a board's books, the history of the resource that one core
+/// hands to the other, and the rows: a poll is before the release of the same place, though its
+/// core is the higher one. Rows with the handover a tick earlier aren't rows of that history.
 pub fn handover()
     ensures logs { AreLogs handover_a_tick_later.plan logs (entries_at books) }
     ensures history { IsServed (ticket_word 2 2) 0 (entries_at books) history }
@@ -66,8 +66,8 @@ pub fn handover()
     ensures earlier { ¬ Paired IsRowOfEvent (filter (is_row_on 0) handover_within_a_tick.rows) history }
 {}
 
-/// A worked merge of steps on two resources, by the cores of its rows. In tick 3 core 1 stands first, since its step is on the
-/// first resource, and in tick 4, since it touches none.
+/// A worked merge of steps on two resources, by the cores of its rows. Core 1 is first in tick 3,
+/// since its step is on the first resource, and in tick 4, since it uses none.
 pub fn two_resources_in_a_tick()
     ensures { map (λ x. x.row.core.0) (merged (turns_of two_resources.logs) 2 5) ≡ 0 ∷ 1 ∷ 0 ∷ 1 ∷ 0 ∷ 1 ∷ 1 ∷ 0 ∷ 1 ∷ 0 ∷ [] }
 {}

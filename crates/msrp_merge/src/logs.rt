@@ -1,4 +1,4 @@
-//! What a core did, turn by turn.
+//! What a core did, turn by turn, with the places that make a merge possible.
 ghost use Rattle.std.specs.Prelude.{◌≡◌, ◌<◌, ◌++◌, ◌∷◌};
 ghost use Rattle.msrp_plan.specs.Common.{[], length, slice_index_or, IfOk};
 ghost use Rattle.msrp_merge.specs.declared.logs.Turn.{Turn as TurnAt};
@@ -8,16 +8,16 @@ use msrp_plan::{CoreId, Memory, Row};
 use std::alloc::Global;
 use std::marker::Model;
 
-/// Where a turn found the global resource that it touched, as the board told it.
+/// Where a turn's step is among all steps on its global resource, as the board answered.
 #[derive(Clone, Copy, Debug, PartialEq, Eq)]
 pub struct Place {
-    /// How many requests and releases of the resource stood before the step.
+    /// The number of requests and releases of the resource before the step.
     pub number: u32,
     /// Whether the step was a poll, which reads a place; a request or a release takes one.
     pub polled: bool,
 }
 
-/// A turn as its core logs it: the row, and a place where the turn touched a global resource.
+/// A turn as its core logs it: the row, and its step's place, if it made one on a global resource.
 #[derive(Clone, Copy, Debug, PartialEq, Eq)]
 pub struct Turn {
     pub row: Row,
@@ -45,8 +45,8 @@ impl Model for CoreLog {
 }
 
 impl CoreLog {
-    /// An empty log of a core, for so many ticks. All memory that the log ever needs is taken here: it is [`Memory`]
-    /// only where that was refused.
+    /// An empty log of a core for this many ticks, with all the memory that it will ever need;
+    /// [`Memory`] only if memory runs out.
     pub fn with_room(alloc: Global, core: CoreId, ticks: u32) -> Result<CoreLog, Memory>
         ensures { IfOk result (λ log. log ≡ record { core = core.0; ticks = ticks; turns = [] }) }
     {
@@ -54,7 +54,7 @@ impl CoreLog {
         Ok(CoreLog { core, ticks, kept })
     }
 
-    /// Adds the core's turn of the next tick. It takes no memory.
+    /// Adds the core's turn of the next tick. Needs no memory.
     pub fn push(&mut self, row: Row, place: Option<Place>)
         requires core { row.core.0 ≡ self.old.core }
         requires tick { row.tick ≡ length self.old.turns }
@@ -64,7 +64,7 @@ impl CoreLog {
         self.kept.push_reserved(Kept::of(row, place));
     }
 
-    /// The core whose log it is.
+    /// The core of the log.
     pub fn core(&self) -> CoreId
         ensures { result.0 ≡ self.now.core }
     {
@@ -78,7 +78,7 @@ impl CoreLog {
         self.ticks
     }
 
-    /// The number of turns that it has, which is the tick of the next.
+    /// The number of its turns: the tick of the next.
     pub fn len(&self) -> usize
         ensures { result ≡ length self.now.turns }
     {

@@ -1,4 +1,4 @@
-//! The logs of two cores that hand a resource over, at the places that a board tells them, in one list of rows.
+//! The logs of two cores that hand a resource over, at places from a board, merged into rows.
 ghost use Rattle.std.specs.Prelude.{◌≡◌};
 ghost use Rattle.msrp_plan.specs.Common.{Some, length, true, has_shape};
 

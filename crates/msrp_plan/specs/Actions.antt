@@ -27,7 +27,7 @@ is_global_unit plan RunUnit = false
 is_global_unit plan (LockUnit g) = is_global plan g.0
 is_global_unit plan (UnlockUnit g) = is_global plan g.0
 
--- the kinds of row that a unit allows, by whether its resource is global, and whether its job is queued
+-- the kinds of row that a unit allows, if its resource is global or not, its job queued or not
 abbrev pub allows : Bool → Bool → Op → Kind → Bool
 allows global queued RunUnit Run = true
 allows false queued (LockUnit g) Lock = true
@@ -48,11 +48,11 @@ abbrev pub does_unit : PlanModel → Bool → Row → Option Op → Bool
 does_unit plan queued r None = false
 does_unit plan queued r (Some u) = same_res r.res (res_of_unit u) && allows (is_global_unit plan u) queued u r.kind
 
--- the row does the next unit of a job that is queued or not, and has done so many units
+-- the row does the next unit of a job that is queued or not and has done n units
 abbrev pub does_unit_after : PlanModel → JobId → Bool → ℕ → Row → Bool
 does_unit_after plan j queued done r = does_unit plan queued r (slice_get (units plan j) done)
 
--- the row does the next unit of the job; where nobody has the turn it is idle
+-- the row does the next unit of the job; if no job runs, it is idle
 abbrev pub does_next : PlanModel → List Row → Option JobId → Row → Bool
 does_next plan pre None r = is_idle r.kind
 does_next plan pre (Some j) r = does_unit_after plan j (is_queued pre j) (done j pre) r

@@ -1,4 +1,4 @@
--- Blocking of a job by later ones: which rows block it, and where in their outermost sections the later jobs stand.
+-- Blocking by later jobs: which rows block a job, and where in their outermost sections those are.
 use Rattle.std.specs.Prelude.{ℕ, List, [], ◌∷◌, ◌++◌, Bool, true, false, ◌==◌, ◌&&◌, ◌||◌, not, Option, Some, None, if◌then◌else◌, filter, ◌≡◌, ◌<◌, ◌≤◌, ◌+◌}
 use Rattle.std.specs.List.{AllByRecursion, Contains}
 use Rattle.msrp_plan.specs.Plan.{PlanModel, task_of, core_of, units, release}
@@ -9,7 +9,7 @@ use Rattle.msrp_plan.specs.Runs.{EachAfter}
 use Rattle.msrp_plan.specs.declared.ids.JobId.{JobId}
 use Rattle.msrp_plan.specs.declared.rows.Row.{Row}
 
--- how many elements pass a test over the elements before them, of which pre are the first
+-- the number of elements that pass a test over the elements before them, the first of which are pre
 abbrev pub count_after : {X : Type 0} → (List X → X → Bool) → List X → List X → ℕ
 count_after p pre [] = 0
 count_after p pre (x ∷ xs) = (if p pre x then 1 else 0) + count_after p (pre ++ x ∷ []) xs
@@ -20,11 +20,11 @@ abbrev pub is_later : PlanModel → JobId → Option JobId → Bool
 is_later plan j None = false
 is_later plan j (Some k) = is_before plan j k
 
--- the row is of a later job of j's core, in a tick at or after j's release, and j isn't finished before it
+-- the row is of a later job of j's core, at or after j's release, and j isn't finished before it
 abbrev pub blocks : PlanModel → JobId → List Row → Row → Bool
 blocks plan j pre r = (r.core.0 == core_of plan j) && (is_released plan r.tick j && (not (is_finished plan pre j) && is_later plan j r.job))
 
--- how many rows block the job
+-- the number of rows that block the job
 abbrev pub blocked : PlanModel → List Row → JobId → ℕ
 blocked plan rows j = count_after (blocks plan j) [] rows
 
@@ -38,7 +38,7 @@ is_by None r = false
 is_by (Some k) r = is_row_of k r
 
 -- ---- sections
--- the job stands in an outermost section, after the section's first row: it holds a resource, or is queued for one
+-- the job is in an outermost section, after its first row: it holds or is queued for a resource
 abbrev pub is_amid : PlanModel → List Row → JobId → Bool
 is_amid plan pre k = is_queued pre k || in_section plan (units plan k) (done k pre)
 
@@ -46,11 +46,11 @@ is_amid plan pre k = is_queued pre k || in_section plan (units plan k) (done k p
 abbrev pub section_of : PlanModel → List Row → JobId → ℕ
 section_of plan pre k = section_start plan (units plan k) (done k pre)
 
--- the row is one of job k in its outermost section that unit a begins, after the section's first row
+-- the row is job k's, after the first one of the outermost section that unit a begins
 abbrev pub continues : PlanModel → JobId → ℕ → List Row → Row → Bool
 continues plan k a pre r = is_row_of k r && (is_amid plan pre k && (section_of plan pre k == a))
 
--- the first row of the outermost section in which job k stands was made before tick t
+-- the first row of the outermost section that job k is in was made before tick t
 pub record IsBegun (plan : PlanModel) (pre : List Row) (k : JobId) (t : ℕ) : Type 0 where
   pub before : List Row
   pub first : Row
@@ -62,8 +62,8 @@ pub record IsBegun (plan : PlanModel) (pre : List Row) (k : JobId) (t : ℕ) : T
   pub early : first.tick < t
 
 -- ---- the laws
--- the row that blocks j is of job k: of the jobs of the core that are started and unfinished k comes first, its relative
--- deadline is longer than j's, and it stands in an outermost section that it began before j's release
+-- the row that blocks j is of job k: k is the first of the core's started, unfinished jobs, has a
+-- longer relative deadline, and is in an outermost section that it began before j's release
 pub record IsBlocker (plan : PlanModel) (pre : List Row) (r : Row) (j k : JobId) : Type 0 where
   pub job : r.job ≡ Some k
   pub runs : running plan r.core.0 pre ≡ Some k
@@ -78,7 +78,7 @@ HasBlockers plan pre r = (j : JobId) → Contains (jobs plan) j → blocks plan 
 abbrev pub BlockedByBegunSections : PlanModel → List Row → Type 0
 BlockedByBegunSections plan rows = EachAfter (HasBlockers plan) [] rows
 
--- the row, if it blocks j, is one of job k in its outermost section that unit a begins, after the section's first row
+-- the row, if it blocks j, is job k's, after the first of the outermost section that unit a begins
 abbrev pub BlocksFrom : PlanModel → JobId → JobId → ℕ → List Row → Row → Type 0
 BlocksFrom plan j k a pre r = blocks plan j pre r ≡ true → continues plan k a pre r ≡ true
 
@@ -94,14 +94,14 @@ BoundedSections plan rows = (k : JobId) (a : ℕ) → count_after (continues pla
 abbrev pub BoundedBlocking : PlanModel → List Row → Type 0
 BoundedBlocking plan rows = (j : JobId) → Contains (jobs plan) j → blocked plan rows j ≤ blocked_bound plan (task_of plan j)
 
--- the row, if it is one of the job's core, stands before the job's release, or from it on
+-- the row, if it is of the job's core, is before the job's release; or at it or later
 abbrev pub ComesBefore : PlanModel → JobId → Row → Type 0
 ComesBefore plan j r = r.core.0 ≡ core_of plan j → r.tick < release plan j
 
 abbrev pub ComesAfter : PlanModel → JobId → Row → Type 0
 ComesAfter plan j r = r.core.0 ≡ core_of plan j → release plan j ≤ r.tick
 
--- of the rows of the job's core all before its release are among the first ones, and all from it on among the rest
+-- the rows of the job's core before its release are among the first rows, its others among the rest
 pub record IsSplitAtRelease (plan : PlanModel) (j : JobId) (pre rest : List Row) : Type 0 where
   pub early : AllByRecursion (ComesBefore plan j) pre
   pub late : AllByRecursion (ComesAfter plan j) rest
@@ -110,8 +110,8 @@ pub record IsSplitAtRelease (plan : PlanModel) (j : JobId) (pre rest : List Row)
 abbrev pub delays_start : JobId → Option JobId → List Row → Row → Bool
 delays_start j k before r = not (is_started before j) && is_by k r
 
--- who blocks a job is known at its release: the first of the later jobs that are started and unfinished then, and each
--- row that this job makes before the blocked job starts counts
+-- a job's blocker is known at its release: the first of the later jobs that are started and
+-- unfinished then; exactly the rows of that job before the blocked job starts count
 abbrev pub BlockedSinceRelease : PlanModel → List Row → Type 0
 BlockedSinceRelease plan rows =
     (j : JobId) (pre rest : List Row) → rows ≡ pre ++ rest → Contains (jobs plan) j → IsSplitAtRelease plan j pre rest → blocked plan rows j ≡ count_after (delays_start j (first_later plan pre j)) pre rest

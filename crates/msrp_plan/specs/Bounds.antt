@@ -1,4 +1,4 @@
--- Bounds that a plan gives: how long sections are, how often a job spins, and how long it is blocked.
+-- A plan's bounds: how long sections are, how often a job spins, and how long it is blocked.
 use Rattle.std.specs.Prelude.{ℕ, List, [], ◌∷◌, Bool, ◌==◌, ◌&&◌, not, nat_lt, if◌then◌else◌, filter, map, max, count_by, length, take, slice_get, Option, Some, ◌+◌}
 use Rattle.std.specs.List.{list_any, range_with_len, sum_by}
 use Rattle.msrp_plan.specs.Plan.{PlanModel, TaskModel}
@@ -28,17 +28,17 @@ section plan g c = greatest (map (λ a. longest_section g a.units) (filter (λ a
 abbrev pub is_used_on : PlanModel → ℕ → ℕ → Bool
 is_used_on plan g c = list_any (λ a. (a.core == c) && uses g a) plan.tasks
 
--- how often a job of core c spins in one wait for the resource, at most: for each other core that uses it, one
--- handover and its longest section (this bound is the project's own)
+-- the most often that a job of core c spins in one wait for the resource: for each other core that
+-- uses it, one handover and its longest section (this bound is the project's own)
 abbrev pub spin_bound : PlanModel → ℕ → ℕ → ℕ
 spin_bound plan g c = sum_by (λ d. 1 + section plan g d) (filter (λ d. not (d == c) && is_used_on plan g d) (range_with_len 0 plan.cores))
 
 -- ---- blocking
--- a resource is held after the first n units: unit n stands in an outermost section, after the lock that begins it
+-- a resource is held after the first n units: unit n is in an outermost section, after its lock
 abbrev pub in_section : PlanModel → List Op → ℕ → Bool
 in_section plan us n = list_any (holds_after (take n us)) (resources plan)
 
--- the unit that begins the outermost section of unit n: the last one up to n before which nothing is held
+-- the first unit of unit n's outermost section: the last one up to n before which nothing is held
 abbrev pub section_start : PlanModel → List Op → ℕ → ℕ
 section_start plan us n = greatest (filter (λ i. not (in_section plan us i)) (range_with_len 0 (n + 1)))
 
@@ -46,24 +46,24 @@ section_start plan us n = greatest (filter (λ i. not (in_section plan us i)) (r
 abbrev pub units_of_section : PlanModel → List Op → ℕ → List ℕ
 units_of_section plan us a = filter (λ n. section_start plan us n == a) (range_with_len 0 (length us))
 
--- how many rows a job waits at a unit, at most: at a request of a global resource one to join the queue, and as many
--- as it may spin
+-- the most rows that a job waits at a unit: at a request of a global resource, one to join the
+-- queue and one for each possible spin
 abbrev pub wait_bound : PlanModel → ℕ → Option Op → ℕ
 wait_bound plan c (Some (Lock g)) = if is_global plan g.0 then 1 + spin_bound plan g.0 c else 0
 wait_bound plan c _ = 0
 
--- how many rows the outermost section that unit a begins has after its first, at most: its units after the lock, and its
--- waits; 0 where the unit begins none
+-- the most rows of the outermost section that unit a begins, after the first: its units after the
+-- lock, and its waits; 0 if the unit begins none
 abbrev pub rows_from : PlanModel → TaskModel → ℕ → ℕ
 rows_from plan task a =
     let ns = units_of_section plan task.units a in
     count_by (in_section plan task.units) ns + sum_by (λ n. wait_bound plan task.core (slice_get task.units n)) ns
 
--- how many rows the longest outermost section of a task has after its first, at most; 0 where the task has none
+-- the most rows of the task's longest outermost section after the first; 0 if the task has none
 abbrev pub out : PlanModel → TaskModel → ℕ
 out plan task = greatest (map (rows_from plan task) (range_with_len 0 (length task.units)))
 
--- how many rows block a job of the task, at most: one outermost section of a task of the same core with a longer
--- relative deadline (this bound is the project's own)
+-- the most rows that block a job of the task: one outermost section of a task of the same core with
+-- a longer relative deadline (this bound is the project's own)
 abbrev pub blocked_bound : PlanModel → TaskModel → ℕ
 blocked_bound plan task = greatest (map (out plan) (filter (λ u. (u.core == task.core) && nat_lt task.deadline u.deadline) plan.tasks))

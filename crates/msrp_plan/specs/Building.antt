@@ -1,4 +1,4 @@
--- What a builder is told, what each call adds, and when it is refused. Refusals stand in the order of judging.
+-- What a builder has, what each call adds, and when it is refused, in the order of the checks.
 use Rattle.std.specs.Prelude.{ℕ, List, [], ◌∷◌, ◌++◌, Bool, true, false, ◌==◌, ◌&&◌, ◌||◌, not, nat_lt, nat_le, is_none, Option, Some, None, if◌then◌else◌, length, map, replicate, slice_get, slice_index_or, set, take, ◌+◌, ◌-◌, ◌≡◌, ◌⊎◌, IsOk, Ok, Err, ⊤}
 use Rattle.std.specs.declared.result.Result.{Result}
 use Rattle.std.specs.List.{list_any, range_with_len}
@@ -23,7 +23,7 @@ empty_plan cores ticks = record { cores = cores; ticks = ticks; resources = []; 
 abbrev pub with_resource : PlanModel → List ℕ → PlanModel
 with_resource plan name = record plan { resources = plan.resources ++ name ∷ [] }
 
--- a task as it is declared, by its name, core, release times and relative deadline: it has no unit yet
+-- a declared task, from its name, core, release times and relative deadline: it has no unit yet
 abbrev pub new_task : List ℕ → ℕ → ReleaseTimes → ℕ → TaskModel
 new_task name core times deadline = record { name = name; core = core; times = times; deadline = deadline; units = [] }
 
@@ -35,7 +35,7 @@ AreNew (Listed ticks) = ticks ≡ []
 abbrev pub with_task : PlanModel → TaskModel → PlanModel
 with_task plan task = record plan { tasks = plan.tasks ++ task ∷ [] }
 
--- the units that a step stands for
+-- the units that a step adds
 abbrev pub units_of : Step → List Op
 units_of (Run n) = replicate n RunUnit
 units_of (Lock g) = LockUnit g ∷ []
@@ -59,7 +59,7 @@ with_more_units us task = record task { units = task.units ++ us }
 abbrev pub with_units : PlanModel → List Op → PlanModel
 with_units plan us = record plan { tasks = with_newest (with_more_units us) plan.tasks }
 
--- a task, and a plan's newest one, with one release more
+-- a task, and a plan's newest one, with one more release
 abbrev pub with_more_ticks : ℕ → TaskModel → TaskModel
 with_more_ticks tick task = record task { times = with_tick task.times tick }
 
@@ -90,7 +90,7 @@ is_none_held None = false
 is_none_held (Some []) = true
 is_none_held (Some (g ∷ held)) = false
 
--- a task may end where it has a release and a unit and holds nothing
+-- a task may end if it has a release and a unit and holds nothing
 abbrev pub task_end_fault : TaskModel → Option PlanFault
 task_end_fault task =
     fault_if (lacks_release task.times) Releases (
@@ -131,7 +131,7 @@ tick_fault ticks tick =
     fault_if (nat_lt longest_time tick || nat_le most_releases (length ticks)) Limit (
     fault_if (not (is_above (slice_get ticks (length ticks - 1)) tick)) Releases None)
 
--- one release more of the newest task
+-- one more release of the newest task
 abbrev pub release_fault : PlanModel → ℕ → Option PlanFault
 release_fault plan tick = tick_fault (listed_ticks (newest_task plan).times) tick
 
@@ -186,12 +186,12 @@ finish_fault plan =
     fault_if (list_any (λ task. nests_global plan task.units) plan.tasks) NestedGlobal (
     fault_if (nat_lt most_jobs (length (jobs plan))) Jobs None))
 
--- a call is refused with its fault if it has one, and else only for want of memory
+-- a call is refused with its fault if it has one, and otherwise only if memory runs out
 abbrev pub IsJudged : {A : Type 0} → Option PlanFault → Result A PlanFault → Type 0
 IsJudged (Some fault) r = r ≡ Err fault
 IsJudged None r = IsOk r ⊎ (r ≡ Err Memory)
 
--- the answer of a call that wants no memory: its fault if it has one, and else the value
+-- the answer of a call that needs no memory: its fault if it has one, otherwise the value
 abbrev pub judged : {A : Type 0} → Option PlanFault → A → Result A PlanFault
 judged None x = Ok x
 judged (Some fault) x = Err fault

@@ -1,4 +1,4 @@
--- What a clause reads of a source and of a sink, and what a text that was given to a sink left in its writer.
+-- What a clause says of a source and of a sink, and which text a sink has left in its writer.
 use Rattle.std.specs.Prelude.{◌≡◌, ℕ, Bool, true, false, ◌||◌, not, nat_le, List, [], ◌++◌, Option, Some}
 use Rattle.std.specs.Io.KnownBytes.{Appends}
 use Rattle.msrp_plan.specs.Limits.{most_bytes, most_calls}
@@ -17,7 +17,7 @@ abbrev pub is_ended : SourceState → Bool
 is_ended Ended = true
 is_ended _ = false
 
--- nothing is left once the end was met; before it what the reader has left, where that is known
+-- nothing is left after the end; before it, what the reader has left, if that is known
 abbrev pub left_at : SourceState → Option (List ℕ) → Option (List ℕ)
 left_at Ended known = Some []
 left_at _ known = known
@@ -26,11 +26,11 @@ left_at _ known = known
 abbrev pub source_inner : {R : Type 0} → Source R → R
 source_inner s = s.inner
 
--- a read of the source failed, as each further one does
+-- a read of the source failed, as each later one does
 abbrev pub source_failed : {R : Type 0} → Source R → Bool
 source_failed s = is_failed s.state
 
--- a read of the source met the end, as each further one does
+-- a read of the source met the end, as each later one does
 abbrev pub source_ended : {R : Type 0} → Source R → Bool
 source_ended s = is_ended s.state
 
@@ -50,7 +50,7 @@ source_calls s = s.calls
 abbrev pub is_spent : {R : Type 0} → Source R → Bool
 is_spent s = nat_le most_bytes s.given || nat_le most_calls s.calls
 
--- the bytes that a source has left, where what its reader has left is known
+-- the bytes that a source has left, if what its reader has left is known
 abbrev pub source_remaining : {R : Type 0} → (R → Option (List ℕ)) → Source R → Option (List ℕ)
 source_remaining remaining s = left_at s.state (remaining s.inner)
 
@@ -58,7 +58,7 @@ source_remaining remaining s = left_at s.state (remaining s.inner)
 abbrev pub sink_inner : {W : Type 0} → Sink W → W
 sink_inner s = s.inner
 
--- a write to the sink failed, as each further one does
+-- a write to the sink failed, as each later one does
 abbrev pub sink_failed : {W : Type 0} → Sink W → Bool
 sink_failed s = s.failed
 

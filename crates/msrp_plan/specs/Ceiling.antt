@@ -1,5 +1,5 @@
--- The current ceiling of a core (Baker 1991, current ceiling; Gai, Lipari and Di Natale 2001, the MSRP rules: a core is
--- at its highest level from the request of a global resource to its release).
+-- The current ceiling of a core (Baker 1991; Gai, Lipari and Di Natale 2001, the MSRP rules: it is
+-- the core's highest level from the request of a global resource to its release).
 use Rattle.std.specs.Prelude.{ℕ, List, Bool, ◌&&◌, ◌||◌, not, if◌then◌else◌, filter, map, length, max}
 use Rattle.std.specs.List.{list_any, range_with_len}
 use Rattle.msrp_plan.specs.Plan.{PlanModel}
@@ -11,9 +11,9 @@ use Rattle.msrp_plan.specs.declared.rows.Row.{Row}
 abbrev pub resources : PlanModel → List ℕ
 resources plan = range_with_len 0 (length plan.resources)
 
--- the current ceiling of a core, by whether one of its jobs is queued for a global resource, and which resources its
--- jobs hold: the greatest of the ceilings of the local ones, and of the core's highest level while it is raised, that
--- is while a job is queued for a global resource or holds one; 0 where there is none
+-- the current ceiling of a core, by whether one of its jobs is queued for a global resource, and
+-- which resources its jobs hold: the greatest of the ceilings of the local ones and, while a job is
+-- queued for a global resource or holds one, of the core's highest level; 0 if there is none
 abbrev pub raised_with : PlanModel → Bool → (ℕ → Bool) → Bool
 raised_with plan queued held = queued || list_any (λ g. is_global plan g && held g) (resources plan)
 

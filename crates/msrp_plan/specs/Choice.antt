@@ -1,5 +1,5 @@
--- Which job has the turn: earliest deadline first under the Stack Resource Policy (Baker 1991, SRP:
--- a job starts only where its preemption level is above the current ceiling; once started it never blocks).
+-- Which job runs: earliest deadline first under the Stack Resource Policy (Baker 1991, SRP: a job
+-- starts only if its preemption level is above the current ceiling; once started it never blocks).
 use Rattle.std.specs.Prelude.{ℕ, List, [], ◌∷◌, Bool, true, ◌&&◌, not, nat_lt, Option, Some, None, if◌then◌else◌, filter}
 use Rattle.std.specs.List.{best_of}
 use Rattle.std.specs.Ordering.{is_lt, ordering_then, nat_cmp}
@@ -24,11 +24,11 @@ abbrev pub least : {X : Type 0} → (X → X → Bool) → List X → Option X
 least lt [] = None
 least lt (x ∷ xs) = Some (best_of lt x xs)
 
--- the least job of the core that is released in tick t and not started, whatever tells which are started
+-- the least job of the core that is released in tick t and not started, for any test of "started"
 abbrev pub first_ready : PlanModel → ℕ → ℕ → (JobId → Bool) → Option JobId
 first_ready plan c t started = least (is_before plan) (filter (λ j. is_released plan t j && not (started j)) (jobs_on plan c))
 
--- the least job of the core that is started and unfinished, whatever tells which are
+-- the least job of the core that is started and unfinished, for any two such tests
 abbrev pub first_unfinished : PlanModel → ℕ → (JobId → Bool) → (JobId → Bool) → Option JobId
 first_unfinished plan c started finished = least (is_before plan) (filter (λ j. started j && not (finished j)) (jobs_on plan c))
 
@@ -45,12 +45,12 @@ abbrev pub comes_first : PlanModel → JobId → Option JobId → Bool
 comes_first plan h None = true
 comes_first plan h (Some s) = is_before plan h s
 
--- the head where its level is above the ceiling and it comes before who runs; else who runs
+-- the head if its level is above the ceiling and it comes first; otherwise the running job
 abbrev pub chosen : PlanModel → ℕ → Option JobId → Option JobId → Option JobId
 chosen plan above None s = s
 chosen plan above (Some h) None = if nat_lt above (level plan h.task.0) then Some h else None
 chosen plan above (Some h) (Some s) = if nat_lt above (level plan h.task.0) && is_before plan h s then Some h else Some s
 
--- the job of the core that has the turn in tick t after these rows, or none
+-- the job of the core that runs in tick t after these rows, or none
 abbrev pub choice : PlanModel → ℕ → ℕ → List Row → Option JobId
 choice plan c t pre = chosen plan (ceiling plan c pre) (head plan c t pre) (running plan c pre)

@@ -1,4 +1,4 @@
--- The words that most definitions and contracts cite, passed on from one place. Declares nothing.
+-- The words that most definitions and contracts use, imported from one place. Declares nothing.
 pub use Rattle.msrp_plan.specs.Actions.{allows, does_next, does_unit, does_unit_after, is_global_unit, res_of_unit, same_res}
 pub use Rattle.msrp_plan.specs.Aheads.{carries_ahead, carries_its_ahead, without_ahead}
 pub use Rattle.msrp_plan.specs.Blocking.{blocked, blocks, continues, count_after, first_later, is_amid, section_of}

@@ -1,5 +1,5 @@
--- Worked examples: plans small enough to follow by hand, each with the run that the rules give it, and beside it
--- rows that break a rule. `src/worked.rt` says of each what the definitions make of it.
+-- Worked examples: plans small enough to follow by hand, each with the run that the rules give it,
+-- and rows that violate a rule. `src/worked.rt` says of each what the definitions make of it.
 pub mod Notation
 pub mod NothingToDo
 pub mod WorkThenIdle

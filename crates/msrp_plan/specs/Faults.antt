@@ -1,4 +1,4 @@
--- What a fault says of the rows: which of them are legal, and what is wrong with the next.
+-- What a fault says of the rows: which of them are legal, and what is wrong with the next one.
 use Rattle.std.specs.Prelude.{List, ◌∷◌, ◌++◌, Some, length, ◌≡◌, ◌<◌, ◌+◌, ◌*◌, ◌⊎◌}
 use Rattle.msrp_plan.specs.Plan.{PlanModel}
 use Rattle.msrp_plan.specs.Runs.{IsRun, IsRunStart}
@@ -7,7 +7,7 @@ use Rattle.msrp_plan.specs.declared.faults.Fault.{Fault}
 use Rattle.msrp_plan.specs.declared.faults.Rule.TheVariants.{A6, A7}
 use Rattle.msrp_plan.specs.declared.rows.Row.{Row}
 
--- the rows before it are the start of a legal run that isn't whole, and it breaks the rule and no lower one
+-- the rows before it are a legal start, not a whole run, and this is its lowest violated rule
 pub record IsBroken (plan : PlanModel) (rows : List Row) (f : Fault) : Type 0 where
   pub before : List Row
   pub broke : Row
@@ -35,6 +35,6 @@ pub record IsOneTooMany (plan : PlanModel) (rows : List Row) (f : Fault) : Type 
   pub number : f.row ≡ length before + 1
   pub rule : f.rule ≡ A7
 
--- one of the three: a row that breaks a rule, a missing row, a row too many
+-- one of the three: a row that violates a rule, a missing row, a surplus row
 abbrev pub IsFault : PlanModel → List Row → Fault → Type 0
 IsFault plan rows f = IsBroken plan rows f ⊎ (IsCutShort plan rows f ⊎ IsOneTooMany plan rows f)

@@ -1,10 +1,10 @@
--- A first-in-first-out lock on one thread: what each call answers, and which histories are legal. The board,
--- a port and the merge all speak of this one lock. Histories stand oldest first.
+-- A first-in-first-out lock on one thread: what each call answers, and which histories are legal.
+-- The board, a port and the merge all use this one lock. The oldest call is first.
 use Rattle.std.specs.Prelude.{ℕ, zero, suc, List, [], ◌∷◌, ◌++◌, length, Bool, true, false, ◌⊎◌, ◌≡◌, ⊤}
 use Rattle.msrp_plan.specs.declared.units.Call.{Call}
 use Rattle.msrp_plan.specs.declared.units.Call.TheVariants.{Ask, Poll, Leave}
 
--- the cores that requested the lock and have not released it, in order, and whether the first was granted it
+-- the cores that requested and haven't released it, in order, and whether the first is granted
 pub record FifoLock : Type 0 where
   pub queue : List ℕ
   pub granted : Bool
@@ -20,8 +20,8 @@ abbrev pub IsFirst : List ℕ → ℕ → Type 0
 IsFirst [] c = ⊥
 IsFirst (d ∷ q) c = d ≡ c
 
--- the lock may be called so by this core, and answers so: a request tells how many are ahead, a poll whether
--- the core stands first, and only who was granted the lock releases it
+-- the core may make the call, and the lock answers so: a request learns how many are ahead, a poll
+-- whether the core is first; only the core that was granted the lock may release it
 abbrev pub Answers : FifoLock → ℕ → Call → Type 0
 Answers lock c (Ask ahead) = ¬ IsAmong lock.queue c × (ahead ≡ length lock.queue)
 Answers lock c (Poll true) = IsFirst lock.queue c × (lock.granted ≡ false)

@@ -1,4 +1,4 @@
--- Words of private functions, and of how plans and tasks are stored. No public contract speaks of them.
+-- Definitions for private functions and stored plans. No public contract uses them.
 pub mod Tasks
 pub mod Users
 pub mod Views

@@ -1,4 +1,4 @@
--- Jobs, and how far each is after the rows of a trace. Nothing is stored: progress is counted in the rows.
+-- Jobs, and their progress after rows of a trace, which is counted in the rows, not stored.
 use Rattle.std.specs.Prelude.{ℕ, List, Bool, true, false, ◌==◌, ◌&&◌, not, nat_lt, nat_le, Option, Some, None, fold, filter, map, count_by, length, take}
 use Rattle.std.specs.List.{list_any, range_with_len, flat_map}
 use Rattle.msrp_plan.specs.Plan.{PlanModel, core_of, release, units}
@@ -12,7 +12,7 @@ use Rattle.msrp_plan.specs.declared.rows.Row.{Row}
 abbrev pub job_at : ℕ → ℕ → JobId
 job_at t k = record { task = record { 0 = t }; k = k }
 
--- the jobs of a task: those of its releases that come before the plan's last tick has passed
+-- the jobs of a task: of its releases before the plan's end
 abbrev pub jobs_of : PlanModel → ℕ → List JobId
 jobs_of plan t = filter (λ j. nat_lt (release plan j) plan.ticks) (map (job_at t) (range_with_len 0 plan.ticks))
 

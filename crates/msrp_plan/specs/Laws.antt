@@ -1,4 +1,4 @@
--- What every start of a legal run keeps, over whatever plan and whatever order of the cores.
+-- What holds of every start of a legal run, for every plan and every order of the cores.
 use Rattle.std.specs.Prelude.{ℕ, List, [], ◌∷◌, ◌++◌, Bool, true, false, ◌&&◌, Some, count_by, length, ◌≡◌, ◌≢◌, ◌≤◌, ◌-◌}
 use Rattle.std.specs.List.{list_any}
 use Rattle.msrp_plan.specs.Plan.{PlanModel}
@@ -16,12 +16,11 @@ use Rattle.msrp_plan.specs.declared.rows.Kind.TheVariants.{Lock, Take, Queue, Gr
 use Rattle.msrp_plan.specs.declared.rows.Row.{Row}
 
 -- ---- no local blocking
--- the row, if it locks a local resource, locks one that no other job holds, of whatever core
+-- the row, if it locks a local resource, locks one that no other job of any core holds
 abbrev pub LocksFree : PlanModel → List Row → Row → Type 0
 LocksFree plan pre r = (g : ResId) (j : JobId) → r.kind ≡ Lock → r.res ≡ Some g → r.job ≢ Some j → holds plan pre g.0 j ≡ false
 
--- no job that has its turn ever waits for a local resource (Baker 1991: a job that has started
--- is not blocked)
+-- no job that runs ever waits for a local resource (Baker 1991: a started job isn't blocked)
 abbrev pub NoLocalBlocking : PlanModel → List Row → Type 0
 NoLocalBlocking plan rows = EachAfter (LocksFree plan) [] rows
 
@@ -40,7 +39,7 @@ is_acquiring Take = true
 is_acquiring Grant = true
 is_acquiring _ = false
 
--- a row in which a job comes to hold the resource, at once or after a wait
+-- a row in which a job acquires the resource, at once or after a wait
 abbrev pub is_acquisition : ℕ → Row → Bool
 is_acquisition g r = is_on g r.res && is_acquiring r.kind
 
@@ -56,23 +55,23 @@ abbrev pub is_spin : Kind → Bool
 is_spin Spin = true
 is_spin _ = false
 
--- a row in which the job polls in vain
+-- a row in which the job polls and isn't granted
 abbrev pub is_spin_of : JobId → Row → Bool
 is_spin_of j r = is_row_of j r && is_spin r.kind
 
--- a wait: in row r job j joins the queue of the resource, and in none of the rows since is it granted it
+-- a wait: in row r job j joins the queue of the resource, and none of the rows since grants it
 pub record IsWait (r : Row) (since : List Row) (j : JobId) (g : ℕ) : Type 0 where
   pub job : r.job ≡ Some j
   pub resource : is_on g r.res ≡ true
   pub joins : r.kind ≡ Queue
   pub waits : list_any (is_grant_of j g) since ≡ false
 
--- this holds of each wait of the rows: of the row that begins it, the rows since, the job and the resource
+-- this holds of each wait: of the row that begins it, the rows since, the job and the resource
 abbrev pub EachWait : List Row → (Row → List Row → JobId → ℕ → Type 0) → Type 0
 EachWait rows P = (pre : List Row) (r : Row) (since post : List Row) (j : JobId) (g : ℕ) → rows ≡ pre ++ r ∷ (since ++ post) → IsWait r since j g → P r since j g
 
--- while a job waits for a global resource, others come to hold it at most m - 1 times, on m cores (Gai,
--- Lipari and Di Natale 2001: requests are granted in their order, and of each core one at most stands)
+-- while a job waits for a global resource, others acquire it at most m - 1 times, on m cores (Gai,
+-- Lipari and Di Natale 2001: requests are granted in their order, and each core has at most one)
 abbrev pub BoundedOvertaking : PlanModel → List Row → Type 0
 BoundedOvertaking plan rows = EachWait rows (λ r since j g. count_by (is_acquisition g) since ≤ plan.cores - 1)
 
@@ -81,13 +80,13 @@ BoundedOvertaking plan rows = EachWait rows (λ r since j g. count_by (is_acquis
 abbrev pub FindsShort : PlanModel → List Row → Row → Type 0
 FindsShort plan pre r = (g : ℕ) → r.kind ≡ Queue → is_on g r.res ≡ true → length (fifo g pre) ≤ plan.cores - 1
 
--- no job joins a queue longer than m - 1, on m cores (Gai, Lipari and Di Natale 2001: a core has one request at most)
+-- no job joins a queue longer than m - 1, on m cores (Gai, Lipari and Di Natale 2001)
 abbrev pub ShortQueues : PlanModel → List Row → Type 0
 ShortQueues plan rows = EachAfter (FindsShort plan) [] rows
 
 -- ---- bounded spinning
--- in one wait for a global resource a job spins no more often than the bound of its core: all spins of the job
--- count, since it spins on nothing else then
+-- in one wait for a global resource a job spins at most as often as its core's bound: all spins of
+-- the job count, since it spins on nothing else then
 abbrev pub BoundedSpinning : PlanModel → List Row → Type 0
 BoundedSpinning plan rows = EachWait rows (λ r since j g. count_by (is_spin_of j) since ≤ spin_bound plan g r.core.0)
 

@@ -1,5 +1,5 @@
--- Preemption levels and ceilings of resources (Baker 1991, preemption levels and ceilings; for global resources Gai,
--- Lipari and Di Natale 2001, the MSRP rules).
+-- Preemption levels and ceilings of resources (Baker 1991; for global resources Gai, Lipari and Di
+-- Natale 2001, the MSRP rules).
 use Rattle.std.specs.Prelude.{ℕ, List, [], ◌∷◌, Bool, ◌==◌, ◌&&◌, not, nat_lt, nat_eq, if◌then◌else◌, fold, filter, map, length, max, ◌+◌}
 use Rattle.std.specs.List.{list_any}
 use Rattle.msrp_plan.specs.Plan.{PlanModel, TaskModel, task_at}
@@ -14,7 +14,7 @@ distinct (x ∷ xs) = if list_any (nat_eq x) xs then distinct xs else x ∷ dist
 abbrev pub greatest : List ℕ → ℕ
 greatest ns = fold max 0 ns
 
--- the preemption level of a task: one more than the number of distinct longer relative deadlines in the plan
+-- the preemption level of a task: 1 plus the number of distinct longer relative deadlines
 abbrev pub level_of : PlanModel → TaskModel → ℕ
 level_of plan task = length (distinct (filter (nat_lt task.deadline) (map (λ u. u.deadline) plan.tasks))) + 1
 

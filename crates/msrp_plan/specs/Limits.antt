@@ -1,4 +1,4 @@
--- The limits that every plan keeps, and those of a source of bytes.
+-- The limits of every plan, and those of a source of bytes.
 use Rattle.std.specs.Prelude.{ℕ, ◌*◌}
 
 -- the most cores of a plan
@@ -29,7 +29,7 @@ most_held = 8
 abbrev pub most_jobs : ℕ
 most_jobs = 8192
 
--- the most releases of a listed task, those after the plan's ticks among them
+-- the most releases of a listed task, those after the plan's end included
 abbrev pub most_releases : ℕ
 most_releases = 8192
 

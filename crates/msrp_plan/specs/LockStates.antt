@@ -1,5 +1,6 @@
--- A global resource as rows leave it, in the words of the one-thread lock: so the two statements of first-in-first-out
--- can be compared, the queue of jobs that replies to rows, and the lock that answers calls of cores.
+-- A global resource after rows, in the words of the one-thread lock. So two statements of
+-- first-in-first-out can be compared: the queue of jobs that replies to rows, and the lock that
+-- answers calls of cores.
 use Rattle.std.specs.Prelude.{ℕ, List, [], ◌∷◌, ◌++◌, Bool, true, false, Some, IfSome, map, length, fold, ◌≡◌, ⊤}
 use Rattle.msrp_plan.specs.Plan.{PlanModel, core_of}
 use Rattle.msrp_plan.specs.Jobs.{holds}
@@ -18,7 +19,7 @@ abbrev pub first_holds : PlanModel → List Row → ℕ → List JobId → Bool
 first_holds plan pre g [] = false
 first_holds plan pre g (j ∷ js) = holds plan pre g j
 
--- the lock after these rows: the cores of the resource's queue, and whether the first of it holds the resource
+-- the lock after these rows: the cores of the resource's queue, and whether the first one holds it
 abbrev pub lock_at : PlanModel → ℕ → List Row → FifoLock
 lock_at plan g pre = record { queue = map (core_of plan) (fifo g pre); granted = first_holds plan pre g (fifo g pre) }
 
@@ -26,21 +27,21 @@ lock_at plan g pre = record { queue = map (core_of plan) (fifo g pre); granted =
 abbrev pub lock_from : FifoLock → List (ℕ × Call) → FifoLock
 lock_from lock calls = fold (λ before s. lock_after before s.0 s.1) lock calls
 
--- the row is one that a core's call of the resource makes; the ahead that it carries, if it does, is the call's
+-- the row is made by a core's call of the resource; an ahead that it carries is the call's
 pub record IsRowOfCall (g : ℕ) (c : ℕ) (call : Call) (r : Row) : Type 0 where
   pub core : r.core.0 ≡ c
   pub resource : r.res ≡ Some (record { 0 = g })
   pub kind : r.kind ≡ kind_of_call call
   pub ahead : IfSome r.ahead (λ n. ahead_of_call call ≡ Some n)
 
--- a request tells the number of jobs in the queue
+-- a request learns the number of jobs in the queue
 abbrev pub Tells : List JobId → Call → Type 0
 Tells queue (Ask ahead) = ahead ≡ length queue
 Tells queue (Poll granted) = ⊤
 Tells queue Leave = ⊤
 
--- queue and lock agree on a row that such a call makes: as the next turn of its core it has the queue's reply where the lock
--- answers the call, and the other way round in a legal run; after the row the lock is as after the call
+-- queue and lock agree on a row that such a call makes: as the core's next turn, it has the queue's
+-- reply if and, in a legal run, only if the lock answers; after it the lock is as after the call
 pub record Agree (plan : PlanModel) (pre : List Row) (r : Row) (g : ℕ) (call : Call) : Type 0 where
   pub replies : IsRunStart plan pre → IsCoreTurn plan r.core.0 (log_of r.core.0 pre) r → Answers (lock_at plan g pre) r.core.0 call → is_fifo_reply pre r ≡ true
   pub answers : IsRunStart plan (pre ++ r ∷ []) → Tells (fifo g pre) call → Answers (lock_at plan g pre) r.core.0 call

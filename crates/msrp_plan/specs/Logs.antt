@@ -1,4 +1,4 @@
--- The rows of one core, or on one resource, among all, and the orders in which the cores have their turns.
+-- The rows of one core, or on one resource, among all rows, and the orders of the cores' turns.
 use Rattle.std.specs.Prelude.{ℕ, List, Bool, ◌==◌, ◌≡◌, ◌≢◌, true, false, filter, map, length, ◌<◌, ◌/◌, []}
 use Rattle.std.specs.List.{flat_map, range_with_len, AllByRecursion}
 use Rattle.msrp_plan.specs.Plan.{PlanModel}
@@ -27,19 +27,19 @@ pub record AreApart (r s : Row) : Type 0 where
 abbrev pub core_order : List Row → List ℕ
 core_order rows = map (λ r. r.core.0) rows
 
--- the cores in rising order, once in each of so many ticks
+-- the cores in rising order, once in each of n ticks
 abbrev pub ascending : ℕ → ℕ → List ℕ
 ascending cores ticks = flat_map (λ t. range_with_len 0 cores) (range_with_len 0 ticks)
 
--- the row is the next one of a core that is due: it has had one turn in each full tick
+-- the row is the next one of a core that has had one turn in each full tick so far
 pub record IsNextTurn (plan : PlanModel) (pre : List Row) (r : Row) : Type 0 where
   pub core : r.core.0 < plan.cores
   pub due : length (log_of r.core.0 pre) ≡ length pre / plan.cores
   pub turn : IsCoreTurn plan r.core.0 (log_of r.core.0 pre) r
   pub reply : is_fifo_reply pre r ≡ true
 
--- the runs of the cores, put together: each core's log is a run of it, and each row stands in the tick that is due,
--- whatever the order of the cores in a tick and whatever the global resources reply
+-- the runs of the cores, put together: each core's log is a run of it, and each row is in the
+-- expected tick, for any order of the cores in a tick and any replies of the global resources
 pub record AreInterleaved (plan : PlanModel) (rows : List Row) : Type 0 where
   pub runs : (c : ℕ) → c < plan.cores → CoreRun plan c (log_of c rows)
   pub cores : AllByRecursion (λ r. r.core.0 < plan.cores) rows

@@ -13,7 +13,7 @@ abbrev pub is_name : List ℕ → Bool
 is_name [] = false
 is_name (b ∷ bs) = is_ascii_lowercase b && (nat_le (length bs) 15 && list_all is_name_byte bs)
 
--- the name stands in the list, and where it stands first
+-- the name is in the list, and its first index there
 abbrev pub has_name : List (List ℕ) → List ℕ → Bool
 has_name names name = list_any (bytes_eq name) names
 

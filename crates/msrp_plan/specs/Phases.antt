@@ -7,8 +7,8 @@ use Rattle.msrp_plan.specs.declared.rows.Row.{Row}
 use Rattle.msrp_plan.specs.declared.units.Phase.{Phase}
 use Rattle.msrp_plan.specs.declared.units.Phase.TheVariants.{Free, Queued, Holding}
 
--- the phase after a row of this kind on this resource: a request is granted at once or queued, a poll is granted or
--- left waiting, a release frees, and every other row leaves the phase as it is
+-- the phase after a row of this kind on this resource: a request is granted at once or queued, a
+-- poll is granted or not, a release frees, and any other row leaves the phase as it is
 abbrev pub phase_with : Phase → Kind → Option ResId → Phase
 phase_with phase Take (Some g) = Holding g
 phase_with phase Grant (Some g) = Holding g

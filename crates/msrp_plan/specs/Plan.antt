@@ -1,4 +1,4 @@
--- A plan: tasks that recur, partitioned over cores, with the resources that they lock.
+-- A plan: recurring tasks, partitioned over cores, and the resources that they lock.
 use Rattle.std.specs.Prelude.{ℕ, List, [], Option, slice_index_or, unwrap_or, ◌+◌}
 use Rattle.msrp_plan.specs.ReleaseTimes.{ReleaseTimes, Every, tick_of}
 use Rattle.msrp_plan.specs.declared.ids.JobId.{JobId}
@@ -20,7 +20,7 @@ pub record PlanModel : Type 0 where
   pub resources : List (List ℕ)
   pub tasks : List TaskModel
 
--- what stands for a task that the plan lacks: it has no unit
+-- used in place of a task that the plan lacks: it has no unit
 abbrev pub no_task : TaskModel
 no_task = record { name = []; core = 0; times = Every 1 0; deadline = 1; units = [] }
 
@@ -37,11 +37,11 @@ core_of plan j = (task_of plan j).core
 abbrev pub units : PlanModel → JobId → List Op
 units plan j = (task_of plan j).units
 
--- the tick in which a job is released, if its task has so many releases
+-- the tick in which a job is released, if its task has such a release
 abbrev pub release_tick : PlanModel → JobId → Option ℕ
 release_tick plan j = tick_of (task_of plan j).times j.k
 
--- the same; what isn't released at all counts as released when the ticks are over, too late to be a job of the plan
+-- the tick of a job's release, or the plan's end if it has none: then it isn't a job of the plan
 abbrev pub release : PlanModel → JobId → ℕ
 release plan j = unwrap_or (release_tick plan j) plan.ticks
 

@@ -1,5 +1,5 @@
--- The queue of a global resource, and what it answers (Gai, Lipari and Di Natale 2001, the MSRP rules: requests are
--- served in the order in which they came).
+-- The queue of a global resource, and its answers (Gai, Lipari and Di Natale 2001, the MSRP rules:
+-- requests are served in their order).
 use Rattle.std.specs.Prelude.{ℕ, List, [], ◌∷◌, Bool, true, false, ◌==◌, ◌&&◌, not, Option, Some, None, if◌then◌else◌, filter_map, count_by, drop, length}
 use Rattle.std.specs.List.{list_any}
 use Rattle.msrp_plan.specs.Jobs.{is_job}
@@ -41,11 +41,11 @@ abbrev pub is_first : List JobId → Option JobId → Bool
 is_first [] j = false
 is_first (i ∷ is) j = is_job j i
 
--- it stands in the queue, and not first
+-- the job is in the queue, and not first
 abbrev pub is_behind : List JobId → Option JobId → Bool
 is_behind queue j = list_any (is_job j) queue && not (is_first queue j)
 
--- take where the queue is empty, queue where it isn't, grant to the first, spin to one further back
+-- take if the queue is empty, queue if it isn't, grant to the first, spin to a later one
 abbrev pub replies : List JobId → Option JobId → Kind → Bool
 replies queue j Take = is_free queue
 replies queue j Queue = not (is_free queue)
@@ -53,7 +53,7 @@ replies queue j Grant = is_first queue j
 replies queue j Spin = is_behind queue j
 replies queue j _ = true
 
--- an ahead, where there is one, is the number of jobs in the queue
+-- an ahead, if there is one, is the number of jobs in the queue
 abbrev pub counts : List JobId → Option ℕ → Bool
 counts queue None = true
 counts queue (Some n) = n == length queue

@@ -3,12 +3,12 @@ use Rattle.std.specs.Prelude.{ℕ, List, [], ◌∷◌, ◌++◌, All, Bool, tru
 use Rattle.std.specs.List.Sorted.{IsStrictlyIncreasing}
 use Rattle.msrp_plan.specs.Limits.{most_releases, longest_time}
 
--- once in each period from an offset on (Liu and Layland 1973, the environment), or at the ticks of a list
+-- once a period from an offset on (Liu and Layland 1973, the environment), or at listed ticks
 pub data ReleaseTimes : Type 0 where
   Every : ℕ → ℕ → ReleaseTimes
   Listed : List ℕ → ReleaseTimes
 
--- the tick of the k-th release, if there are so many: offset + k * period, or the k-th of the list
+-- the tick of the k-th release, if there is one: offset + k * period, or the k-th of the list
 abbrev pub tick_of : ReleaseTimes → ℕ → Option ℕ
 tick_of (Every period offset) k = Some (offset + k * period)
 tick_of (Listed ticks) k = slice_get ticks k
@@ -27,7 +27,7 @@ abbrev pub lacks_release : ReleaseTimes → Bool
 lacks_release (Every period offset) = false
 lacks_release (Listed ticks) = length ticks == 0
 
--- a list with one tick more
+-- a list with one more tick
 abbrev pub with_tick : ReleaseTimes → ℕ → ReleaseTimes
 with_tick (Every period offset) tick = Every period offset
 with_tick (Listed ticks) tick = Listed (ticks ++ tick ∷ [])

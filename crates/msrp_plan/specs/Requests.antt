@@ -4,7 +4,7 @@ use Rattle.msrp_plan.specs.Queues.{is_release_of, requester}
 use Rattle.msrp_plan.specs.declared.requests.Requests.{Requests}
 use Rattle.msrp_plan.specs.declared.rows.Row.{Row}
 
--- what is kept is what these rows tell of the resource: no list is longer than the greatest number of releases that is told apart
+-- the resource's requests in these rows, and the number of its releases, at most 2^64 - 1
 pub record HasTaken (kept : Requests) (g : ℕ) (rows : List Row) : Type 0 where
   pub resource : kept.res.0 ≡ g
   pub jobs : kept.jobs.items ≡ filter_map (requester g) rows

@@ -10,11 +10,11 @@ use Rattle.msrp_plan.specs.declared.ids.JobId.{JobId}
 use Rattle.msrp_plan.specs.declared.ids.ResId.{ResId}
 use Rattle.msrp_plan.specs.declared.rows.Row.{Row}
 
--- a row of the core in this tick stands already
+-- the core already has a row in this tick
 abbrev pub had_turn : ℕ → ℕ → List Row → Bool
 had_turn c t pre = list_any (λ r. (r.tick == t) && (r.core.0 == c)) pre
 
--- A1: the row is in the tick that is due, and of a core that has not had its turn in it
+-- A1: the row is in the expected tick, and of a core that hasn't had its turn in it
 abbrev pub is_in_turn : PlanModel → List Row → Row → Bool
 is_in_turn plan pre r = (r.tick == length pre / plan.cores) && (nat_lt r.core.0 plan.cores && not (had_turn r.core.0 r.tick pre))
 
@@ -31,11 +31,11 @@ same_choice None None = true
 same_choice (Some i) (Some j) = same_job i j
 same_choice _ _ = false
 
--- A3: the row's job is the one that has the turn
+-- A3: the row's job is the one to run
 abbrev pub is_chosen : PlanModel → List Row → Row → Bool
 is_chosen plan pre r = same_choice r.job (choice plan r.core.0 r.tick pre)
 
--- A4: the row does what its job has to do next
+-- A4: the row does its job's next action
 abbrev pub is_next_action : PlanModel → List Row → Row → Bool
 is_next_action plan pre r = does_next plan pre r.job r
 
@@ -70,7 +70,7 @@ pub record IsRun (plan : PlanModel) (rows : List Row) : Type 0 where
   pub size : length rows ≡ plan.cores * plan.ticks
   pub each : EachAfter (IsLegal plan) [] rows
 
--- the row is the next one of core c after the rows of its log, whatever a global resource replies
+-- the row is the next one of core c after the rows of its log, for any reply of a global resource
 pub record IsCoreTurn (plan : PlanModel) (c : ℕ) (log : List Row) (r : Row) : Type 0 where
   pub tick : r.tick ≡ length log
   pub core : r.core.0 ≡ c

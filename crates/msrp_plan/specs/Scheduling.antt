@@ -1,4 +1,4 @@
--- What the rules of a turn come to, in the words of scheduling, and that a run goes on in every order of turns.
+-- The consequences of the rules in the words of scheduling; a run continues in every order.
 use Rattle.std.specs.Prelude.{ℕ, List, [], true, false, Some, count_by, length, ◌==◌, ◌≡◌, ◌≢◌, ◌↔◌, ◌<◌, ◌≤◌, ◌*◌, ◌/◌}
 use Rattle.std.specs.List.{Contains}
 use Rattle.msrp_plan.specs.Plan.{PlanModel, release}
@@ -27,7 +27,7 @@ RunsReleased plan rows = EachAfter (IsOfReleased plan) [] rows
 abbrev pub AllFinished : PlanModel → List Row → Row → Type 0
 AllFinished plan pre r = (j : JobId) → Contains (jobs_on plan r.core.0) j → release plan j ≤ r.tick → is_finished plan pre j ≡ true
 
--- the row is idle exactly there
+-- the row is idle exactly if they are
 abbrev pub IdlesLast : PlanModel → List Row → Row → Type 0
 IdlesLast plan pre r = (r.kind ≡ Idle) ↔ AllFinished plan pre r
 
@@ -42,7 +42,7 @@ pub record IsReady (plan : PlanModel) (pre : List Row) (r : Row) (j : JobId) : T
   pub released : release plan j ≤ r.tick
   pub unstarted : is_started pre j ≡ false
 
--- the head: of the jobs that are ready the first
+-- the head: the first of the ready jobs
 pub record IsHead (plan : PlanModel) (pre : List Row) (r : Row) (h : JobId) : Type 0 where
   pub ready : IsReady plan pre r h
   pub first : (j : JobId) → IsReady plan pre r j → is_before plan j h ≡ false
@@ -53,14 +53,13 @@ pub record IsActive (plan : PlanModel) (pre : List Row) (r : Row) (j : JobId) : 
   pub started : is_started pre j ≡ true
   pub unfinished : is_finished plan pre j ≡ false
 
--- job x may start: it comes before every other job that is ready and before every job that is active, and its level is
--- above the core's ceiling
+-- job x may start: it comes before all other ready and active jobs, and is above the core's ceiling
 pub record MayStart (plan : PlanModel) (pre : List Row) (r : Row) (x : JobId) : Type 0 where
   pub first : (j : JobId) → IsReady plan pre r j → j ≢ x → is_before plan x j ≡ true
   pub preempts : (j : JobId) → IsActive plan pre r j → is_before plan x j ≡ true
   pub above : ceiling plan r.core.0 pre < level plan x.task.0
 
--- job x may go on: no job that is active comes before it, and the head, if it comes before x, isn't above the core's ceiling
+-- job x may go on: no active job comes before it, and if the head does, it isn't above the ceiling
 pub record MayGoOn (plan : PlanModel) (pre : List Row) (r : Row) (x : JobId) : Type 0 where
   pub first : (j : JobId) → IsActive plan pre r j → is_before plan j x ≡ false
   pub blocked : (h : JobId) → IsHead plan pre r h → is_before plan h x ≡ true → level plan h.task.0 ≤ ceiling plan r.core.0 pre
@@ -74,19 +73,19 @@ abbrev pub EarliestDeadlineFirst : PlanModel → List Row → Type 0
 EarliestDeadlineFirst plan rows = EachAfter (IsOfFirst plan) [] rows
 
 -- ---- existence
--- the core is due after these rows: it has not had its turn in the tick
+-- the core has a turn left in the tick
 pub record IsDueCore (plan : PlanModel) (pre : List Row) (c : ℕ) : Type 0 where
   pub core : c < plan.cores
   pub once : had_turn c (length pre / plan.cores) pre ≡ false
 
--- the core has a legal row next; if it is a queue row it carries how many stand ahead
+-- the core has a legal row next; if it is a queue row, it carries its ahead
 pub record HasNext (plan : PlanModel) (pre : List Row) (c : ℕ) : Type 0 where
   pub row : Row
   pub core : row.core.0 ≡ c
   pub legal : IsLegal plan pre row
   pub carries : carries_its_ahead row ≡ true
 
--- the core is due after these turns: it has had one in each full round of the cores
+-- the core has a turn left after these turns: it has had one in each full round of the cores
 pub record IsDueInOrder (plan : PlanModel) (pre : List ℕ) (c : ℕ) : Type 0 where
   pub core : c < plan.cores
   pub turns : count_by (λ d. d == c) pre ≡ length pre / plan.cores
@@ -96,7 +95,7 @@ pub record IsOrder (plan : PlanModel) (order : List ℕ) : Type 0 where
   pub size : length order ≡ plan.cores * plan.ticks
   pub each : EachAfter (IsDueInOrder plan) [] order
 
--- a legal run in that order whose queue rows carry how many stand ahead, and no other such run
+-- a legal run in that order whose queue rows carry their aheads, and no other such run
 pub record HasOneRun (plan : PlanModel) (order : List ℕ) : Type 0 where
   pub rows : List Row
   pub turns : core_order rows ≡ order

@@ -15,12 +15,12 @@ abbrev pub is_queue : Kind → Bool
 is_queue Queue = true
 is_queue _ = false
 
--- a queue row alone may carry how many stand ahead of its job
+-- only a queue row may carry the number of jobs ahead
 abbrev pub may_carry : Kind → Option ℕ → Bool
 may_carry kind None = true
 may_carry kind (Some n) = is_queue kind
 
--- ---- the parts of a row, by its kind, out of values that stand in place of those that it lacks
+-- ---- the parts of a row by its kind, with values for those that it lacks
 -- an idle row has no job
 abbrev pub job_of_kind : Kind → JobId → Option JobId
 job_of_kind Idle job = None
@@ -32,7 +32,7 @@ res_of_kind Idle res = None
 res_of_kind Run res = None
 res_of_kind _ res = Some res
 
--- a queue row alone has an ahead, if it carries it
+-- only a queue row has an ahead, if it carries it
 abbrev pub ahead_of_kind : Kind → Bool → ℕ → Option ℕ
 ahead_of_kind Queue true ahead = Some ahead
 ahead_of_kind _ _ ahead = None

@@ -1,4 +1,4 @@
--- Stretches: a core's row that stands again in each of the next ticks.
+-- Stretches: a core's row that repeats in each of the next ticks.
 use Rattle.std.specs.Prelude.{ℕ, List, [], ◌∷◌, ◌++◌, Some, false, slice_get, ◌≡◌, ◌<◌, ◌≤◌, ◌+◌}
 use Rattle.std.specs.List.{Contains}
 use Rattle.msrp_plan.specs.Plan.{PlanModel, release, units}
@@ -21,14 +21,14 @@ NoneReleased plan c t k = (j : JobId) → Contains (jobs_on plan c) j → t ≤ 
 abbrev pub HasWork : PlanModel → JobId → ℕ → ℕ → Type 0
 HasWork plan j n k = (i : ℕ) → n ≤ i → i < n + k → slice_get (units plan j) i ≡ Some RunUnit
 
--- why the row of the last turn, which stands after pre, is the next one k times more: its job works, and has so much work
--- left; or the core idles; or the job polls in vain. Where it doesn't poll, nobody is released meanwhile
+-- why the last turn's row, after pre, is the next one k more times: its job works and has that much
+-- work left; or the core idles; or the job spins. Unless it spins, no job is released meanwhile
 pub data Stays (plan : PlanModel) (c : ℕ) (pre : List Row) (r : Row) (k : ℕ) : Type 0 where
   Works : (j : JobId) → r.kind ≡ Run → r.job ≡ Some j → is_queued pre j ≡ false → HasWork plan j (done j (pre ++ r ∷ [])) k → NoneReleased plan c (r.tick + 1) k → Stays plan c pre r k
   Idles : r.kind ≡ Idle → NoneReleased plan c (r.tick + 1) k → Stays plan c pre r k
   Polls : r.kind ≡ Spin → Stays plan c pre r k
 
--- it is the next one, and has one time less left
+-- the row is the next one, with one repeat less left
 abbrev pub StaysAgain : PlanModel → Type 0
 StaysAgain plan = (c k : ℕ) (pre : List Row) (r : Row) → IsCoreTurn plan c pre r → Stays plan c pre r (k + 1)
     → IsCoreTurn plan c (pre ++ r ∷ []) (in_tick (r.tick + 1) r) × Stays plan c (pre ++ r ∷ []) (in_tick (r.tick + 1) r) k

@@ -1,4 +1,4 @@
--- What a reader of a plan is told of a task's release times.
+-- A task's release times as a plan's reader sees them.
 use Rattle.std.specs.Prelude.{ℕ, length, ◌<◌, ⊤}
 use Rattle.msrp_plan.specs.ReleaseTimes as model
 use Rattle.msrp_plan.specs.declared.times.Times.{Times}

@@ -1,4 +1,4 @@
--- What every accepted plan keeps: its limits, and how its tasks lock and unlock.
+-- What holds of every accepted plan: its limits, and how its tasks lock and unlock.
 use Rattle.std.specs.Prelude.{ℕ, List, true, false, Some, length, map, slice_get, take, ◌≡◌, ◌<◌, ◌≤◌, ◌+◌}
 use Rattle.std.specs.List.{AllPass, IsDistinct}
 use Rattle.std.specs.Str.{bytes_eq}
@@ -25,7 +25,7 @@ pub record IsTask (plan : PlanModel) (task : TaskModel) : Type 0 where
   pub deadline : (1 ≤ task.deadline) × (task.deadline ≤ longest_time)
   pub size : length task.units ≤ most_units
 
--- after the first n units the locks are properly nested, and no more resources are held than may be
+-- after the first n units the locks are properly nested, within the limit of held resources
 abbrev pub IsNestedAt : List Op → ℕ → Type 0
 IsNestedAt us n = (held : List ℕ) × (held_after (take n us) ≡ Some held) × (length held ≤ most_held)
 
@@ -36,7 +36,7 @@ pub record IsLocking (plan : PlanModel) (us : List Op) : Type 0 where
   -- the locks and unlocks of a resource alternate, a lock first
   pub below : (n g : ℕ) → unlocks g (take n us) ≤ locks g (take n us)
   pub once : (n g : ℕ) → locks g (take n us) ≤ unlocks g (take n us) + 1
-  -- what is unlocked is the innermost of what is held
+  -- an unlock is of the innermost held resource
   pub nested : (n : ℕ) → IsNestedAt us n
 
 -- the numbers and names of a plan and of its tasks, and how the tasks lock as far as they go
@@ -50,7 +50,7 @@ pub record IsDraft (plan : PlanModel) : Type 0 where
   pub each : (t : ℕ) → t < length plan.tasks → IsTask plan (task_at plan t)
   pub locking : (t : ℕ) → t < length plan.tasks → IsLocking plan (task_at plan t).units
 
--- a task that is whole: it has a release and a unit, and in the end it holds nothing
+-- a whole task: it has a release and a unit, and holds nothing at the end
 pub record IsWhole (task : TaskModel) : Type 0 where
   pub released : lacks_release task.times ≡ false
   pub work : 0 < length task.units

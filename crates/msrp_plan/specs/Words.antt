@@ -1,4 +1,4 @@
--- The words that texts tell kinds of rows, rules and verdicts by.
+-- The words for kinds of rows, rules and verdicts in texts.
 use Rattle.std.specs.Prelude.{ℕ, List, ◌++◌, Ok, Err, codes, decimal, ⊤}
 use Rattle.std.specs.declared.result.Result.{Result}
 use Rattle.msrp_plan.specs.declared.faults.Fault.{Fault}
@@ -29,7 +29,7 @@ rule_text A5 = codes "A5"
 rule_text A6 = codes "A6"
 rule_text A7 = codes "A7"
 
--- the record of a verdict: of a good trace, or of the first row that breaks a rule
+-- the line of a verdict: of a good trace, or of the first row that violates a rule
 abbrev pub verdict_text : Result ⊤ Fault → List ℕ
 verdict_text (Ok good) = codes "good\n"
 verdict_text (Err fault) = codes "fault," ++ decimal fault.row ++ codes "," ++ rule_text fault.rule ++ codes "\n"

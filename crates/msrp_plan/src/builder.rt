@@ -1,5 +1,5 @@
-//! A plan, told call by call. The builder refuses what breaks a rule, with the first code that applies, and is then as it
-//! was; what it finishes is well formed.
+//! A plan built call by call. A call that would violate a rule is refused with the first code that
+//! applies and changes nothing; what `finish` returns is well formed.
 ghost use Rattle.std.specs.Prelude.{◌≡◌, ◌<◌, ◌≤◌, ◌^◌, ◌&&◌, true, ℕ, [], length, map, replicate, IfOk, OnOk, OnErr};
 ghost use Rattle.std.specs.Option.{option_map};
 ghost use Rattle.std.specs.List.{list_any};
@@ -30,13 +30,13 @@ use std::alloc::{AllocError, Global};
 use std::collections::VecDeque;
 use std::marker::Model;
 
-/// A plan that grows by calls: resources and tasks are numbered in the order of their calls, and releases and units go
-/// to the newest task. A refused call leaves it as it was.
+/// A plan under construction. Resources and tasks are numbered in the order of their calls;
+/// releases and units go to the newest task. A refused call changes nothing.
 #[derive(Debug, Drop)]
 pub struct PlanBuilder {
     alloc: Global,
     parts: Parts,
-    // what the newest task holds, the innermost first
+    // The resources that the newest task holds, the innermost first.
     held: VecDeque<ResId>,
 }
 
@@ -55,8 +55,8 @@ impl Model for PlanBuilder {
 impl PlanBuilder {
     ghost use Rattle.msrp_plan.specs.declared.units.Step.TheVariants.{Run, Lock, Unlock};
 
-    /// A plan with no resource and no task yet. It is refused as [`PlanFault::Limit`] unless it has 1 to 8 cores and
-    /// 1 to 20,000 ticks. Nothing is allocated.
+    /// A plan with no resource and no task yet. Refused as [`PlanFault::Limit`] unless it has 1 to
+    /// 8 cores and 1 to 20,000 ticks. Nothing is allocated.
     pub fn new(alloc: Global, cores: u32, ticks: u32) -> Result<PlanBuilder, PlanFault>
         ensures { result ≡ judged (new_fault cores ticks) (empty_plan cores ticks) }
     {
@@ -76,7 +76,7 @@ impl PlanBuilder {
         })
     }
 
-    /// Declares a resource. Its name is judged as P5 and then P6, and a 33rd resource is P7.
+    /// Declares a resource. Its name is checked for P5, then P6; a 33rd resource is P7.
     pub fn resource(&mut self, name: &str) -> Result<ResId, PlanFault>
         ensures judged { IsJudged (resource_fault self.old name.now) result }
         ensures number { IfOk result (λ res. res.0 ≡ length self.old.resources) }
@@ -92,8 +92,8 @@ impl PlanBuilder {
         Ok(ResId(number))
     }
 
-    /// Declares a periodic task, to which the next units go. First the end of the task before it is judged (P14, P12,
-    /// P10), then its name (P5, P6), its core (P9) and its numbers, which are in ticks (P7, also for a 65th task).
+    /// Declares a periodic task. The previous task's end is checked first (P14, P12, P10), then the
+    /// name (P5, P6), the core (P9) and the times in ticks (P7, as is a 65th task).
     pub fn task(
         &mut self,
         name: &str,
@@ -110,8 +110,8 @@ impl PlanBuilder {
         self.declare(name, core, Releases::Every { period, offset }, deadline)
     }
 
-    /// Declares a task whose jobs are released at the ticks of a list, to which the next releases and then units go. It
-    /// is judged as [`PlanBuilder::task`].
+    /// Declares a task whose jobs are released at listed ticks. The next calls give its releases,
+    /// then its units. Refused as [`PlanBuilder::task`].
     pub fn listed(&mut self, name: &str, core: CoreId, deadline: u32) -> Result<TaskId, PlanFault>
         ensures judged { IsJudged (task_fault self.old (new_task name.now core.0 (Listed []) deadline)) result }
         ensures number { IfOk result (λ task. task.0 ≡ length self.old.tasks) }
@@ -121,7 +121,6 @@ impl PlanBuilder {
         self.declare(name, core, Releases::Listed(Vec::new(self.alloc)), deadline)
     }
 
-    // A new task.
     fn declare(
         &mut self,
         name: &str,
@@ -149,7 +148,7 @@ impl PlanBuilder {
         Ok(TaskId(number))
     }
 
-    /// Whether the newest task takes releases: it is a listed one and has no unit yet.
+    /// Whether the newest task takes releases: it is a listed task that has no unit yet.
     pub fn takes_releases(&self) -> bool
         ensures { result ≡ takes_releases self.now }
     {
@@ -159,9 +158,9 @@ impl PlanBuilder {
         }
     }
 
-    /// Adds a release to the newest task: a tick past the limit and an 8,193rd release are P7, and then a tick that
-    /// isn't above the one before it is P14. Ticks at which the plan is over are taken too, although no job of the plan
-    /// is released then.
+    /// Adds a release to the newest task. A tick above the limit or an 8,193rd release is P7; a
+    /// tick not above the previous one is then P14. A tick after the plan's end is accepted, but
+    /// releases no job.
     pub fn release(&mut self, tick: u32) -> Result<(), PlanFault>
         requires { takes_releases self.old ≡ true }
         ensures judged { IsJudged (release_fault self.old tick) result }
@@ -175,8 +174,8 @@ impl PlanBuilder {
         Ok(())
     }
 
-    /// Adds units to the newest task: they are judged as P14 where it is a listed one without a release, then as P8,
-    /// P10 and P7.
+    /// Adds units to the newest task: P14 if it is a listed task without a release; then P8, P10,
+    /// P7.
     pub fn op(&mut self, step: Step) -> Result<(), PlanFault>
         requires { 0 < length self.old.tasks }
         ensures judged { IsJudged (op_fault self.old step) result }
@@ -193,9 +192,9 @@ impl PlanBuilder {
         }
     }
 
-    /// The plan as it was told. First the end of the last task is judged (P14, P12, P10), then that no global resource
-    /// is locked while a global one is held (P11), and the number of jobs (P13). A refused plan comes back, to be used on.
-    /// Nothing is allocated.
+    /// The plan that the calls built. The last task's end is checked first (P14, P12, P10), then
+    /// nested global resources (P11) and the number of jobs (P13). A refused builder is given back
+    /// and can be continued. Nothing is allocated.
     pub fn finish(self) -> Result<Plan, (PlanBuilder, PlanFault)>
         ensures { result ≡ finished (finish_fault self) self }
     {
@@ -223,14 +222,12 @@ impl PlanBuilder {
         self.parts.tasks.len() as u32
     }
 
-    // Whether a resource of that name stands.
     fn has_resource(&self, name: &str) -> bool
         ensures { result ≡ has_name self.now.resources name.now }
     {
         self.parts.resources.contains(name)
     }
 
-    // Whether a task of that name stands.
     fn has_task(&self, name: &str) -> bool
         ensures { result ≡ has_name (map (λ task. task.name) self.now.tasks) name.now }
     {
@@ -296,7 +293,6 @@ impl PlanBuilder {
         }
     }
 
-    // The newest task.
     fn newest(&self) -> &Task
         requires { 0 < length self.now.tasks }
         ensures { named_view (newest_task self.now).name result.now ≡ newest_task self.now }
@@ -368,7 +364,7 @@ impl PlanBuilder {
         globals
     }
 
-    // Whether a task locks a global resource while it holds a global one.
+    // Whether a task locks a global resource while it holds another global one.
     fn nests_global(&self, task: usize, globals: &[bool; MOST_RESOURCES]) -> bool
         requires task { task < length self.now.tasks }
         requires globals { AreGlobals self.now globals.now }
@@ -386,7 +382,7 @@ impl PlanBuilder {
         false
     }
 
-    // Whether some task does.
+    // Whether some task nests global resources so.
     fn nests_globals(&self, globals: &[bool; MOST_RESOURCES]) -> bool
         requires { AreGlobals self.now globals.now }
         ensures { result ≡ list_any (λ task. nests_global self.now task.units) self.now.tasks }
@@ -399,7 +395,6 @@ impl PlanBuilder {
         false
     }
 
-    // The number of jobs of a task.
     fn jobs(&self, task: usize) -> u32
         requires { task < length self.now.tasks }
         ensures value { result ≡ length (jobs_of self.now task) }
@@ -410,7 +405,6 @@ impl PlanBuilder {
             .count_before(self.parts.ticks)
     }
 
-    // The number of jobs of all tasks.
     fn all_jobs(&self) -> u32
         ensures { result ≡ length (jobs self.now) }
     {
@@ -437,7 +431,6 @@ impl PlanBuilder {
         }
     }
 
-    // Units of work.
     fn run(&mut self, count: u32) -> Result<(), PlanFault>
         requires some { 0 < length self.old.tasks }
         requires good { op_fault self.old (Run count) ≡ None }
@@ -449,7 +442,7 @@ impl PlanBuilder {
         Ok(())
     }
 
-    // A lock, after which the task holds the resource.
+    // Locks the resource for the task.
     fn lock(&mut self, res: ResId) -> Result<(), PlanFault>
         requires some { 0 < length self.old.tasks }
         requires good { op_fault self.old (Lock res) ≡ None }
@@ -463,7 +456,7 @@ impl PlanBuilder {
         Ok(())
     }
 
-    // An unlock of the innermost that the task holds.
+    // Unlocks the innermost resource that the task holds.
     fn unlock(&mut self, res: ResId) -> Result<(), PlanFault>
         requires some { 0 < length self.old.tasks }
         requires good { op_fault self.old (Unlock res) ≡ None }
@@ -497,7 +490,7 @@ fn are_in_range(releases: &Releases) -> bool
     }
 }
 
-// Why one tick more of a list is refused.
+// Why a list is refused one more tick.
 fn tick_fault(ticks: &[u32], tick: u32) -> Option<PlanFault>
     ensures { result ≡ tick_fault ticks.now tick }
 {
@@ -510,7 +503,7 @@ fn tick_fault(ticks: &[u32], tick: u32) -> Option<PlanFault>
     }
 }
 
-// Whether a tick is above the one before it, if there is one.
+// Whether a tick is above the previous one, if there is one.
 fn is_above(before: Option<u32>, tick: u32) -> bool
     ensures { result ≡ is_above before tick }
 {
@@ -530,7 +523,7 @@ fn is_nested_lock(holding: bool, unit: Op, globals: &[bool; MOST_RESOURCES]) -> 
     }
 }
 
-// Whether a global resource is held after a unit, where none is locked while one is held.
+// Whether a global resource is held after a unit, if none is locked while another is held.
 fn holds_global_after(holding: bool, unit: Op, globals: &[bool; MOST_RESOURCES]) -> bool
     ensures { result ≡ holds_one_after globals.now holding unit }
 {
@@ -541,7 +534,7 @@ fn holds_global_after(holding: bool, unit: Op, globals: &[bool; MOST_RESOURCES])
     }
 }
 
-// Whether a resource is one of those that are marked.
+// Whether a resource is marked.
 fn is_one(marked: &[bool; MOST_RESOURCES], res: ResId) -> bool
     ensures { result ≡ is_marked marked.now res.0 }
 {

@@ -1,8 +1,7 @@
 //! `Source`, a reader under limits, and `Sink`, a writer that takes whole texts.
 //!
-//! Both remember a failure: what failed once fails from then on. So a caller that lends one out, as to a
-//! reader of records, can ask afterwards whether it was a read that failed, and a caller that writes many
-//! texts can write them all and ask once at the end.
+//! Both remember a failure: every later call fails too. So a source's lender can ask afterwards
+//! whether a read failed, and who writes many texts asks only at the end.
 
 ghost use Rattle.std.specs.Prelude.{◌≡◌, ◌++◌, ◌+◌, ◌≤◌, ◌<◌, ◌||◌, nat_lt, true, false, ◌↔◌, Some, None, IfOk, IfErr, OnOk, OnErr, IsErr, IsOk, Ok, codes, decimal, length, take};
 ghost use Rattle.std.specs.Io.{ReadsAtMost};
@@ -22,10 +21,10 @@ use std::io::{ErrorKind, Read, Write};
 /// A source gives at most this many bytes.
 pub const BYTE_LIMIT: u32 = 16_777_216;
 
-/// A source asks its reader at most this many times.
+/// A source calls its reader at most this many times.
 pub const CALL_LIMIT: u32 = 33_554_432;
 
-// How far a source is.
+// Whether reads go on, failed, or met the end.
 #[derive(Clone, Copy, Debug, PartialEq, Eq)]
 enum SourceState {
     Open,
@@ -33,13 +32,11 @@ enum SourceState {
     Failed,
 }
 
-/// A reader over another that counts: bytes and calls are limited, so that a reader which never ends is
-/// answered.
+/// A reader that limits another in bytes and in calls, so that an endless reader is answered too.
 ///
-/// A read fails where the reader fails (an interrupted read too), and where so many bytes were given, or so
-/// many calls made, that a limit is reached, also if the end would come next. Each read after one that failed
-/// fails. The end of the reader is met once: from then on the source answers it without asking again. The
-/// reader is never asked for more than what is left to the limit of bytes.
+/// A read fails if the reader fails (an interrupted read too) or a limit is reached, even if the
+/// end would come next. After a failed read every read fails. Once the reader has met its end it
+/// isn't called again. It is never asked for more bytes than the limit leaves.
 #[derive(Drop)]
 pub struct Source<R> {
     inner: R,
@@ -73,7 +70,7 @@ impl<R: Read> Source<R> {
         matches!(self.state, SourceState::Failed)
     }
 
-    // A read that fails.
+    // Fails, now and in every later read.
     fn fail(&mut self) -> io::Error
         ensures kind { error_kind result ≡ ErrorKind.Other }
         ensures failed { self.new ≡ record self.old { state = SourceState.Failed } }
@@ -82,7 +79,7 @@ impl<R: Read> Source<R> {
         io::Error::from(ErrorKind::Other)
     }
 
-    // A read of the reader, within the limits.
+    // Reads from the reader, within the limits.
     fn ask(&mut self, buf: &mut [u8]) -> io::Result<usize>
         requires open { is_open self.old ≡ true }
         requires within { is_spent self.old ≡ false }
@@ -122,14 +119,14 @@ impl<R: Read> Read for Source<R> {
         ensures fault { OnErr result (source_failed self.new ≡ true) }
         ensures good { OnOk result (source_failed self.new ≡ false) }
 
-        // What failed fails again, and the end that was met stands: the reader isn't asked.
+        // After a failure every read fails, and after the end each gives nothing, without a call.
         ensures failed { source_failed self.old ≡ true → IsErr result × (self.new ≡ self.old) }
         ensures ended { source_ended self.old ≡ true → (result ≡ Ok 0) × (self.new ≡ self.old) }
 
-        // At a limit a read fails, also where the end would come next: the reader isn't asked.
+        // At a limit a read fails, even if the end would come next; the reader isn't called.
         ensures spent { is_open self.old ≡ true → is_spent self.old ≡ true → IsErr result × (source_inner self.new ≡ source_inner self.old) }
 
-        // Else the reader is asked once, and what it gives is counted.
+        // Otherwise the reader is called once, and what it gives is counted.
         ensures called { is_open self.old ≡ true → is_spent self.old ≡ false → source_calls self.new ≡ source_calls self.old + 1 }
         ensures counted { IfOk result (λ n. source_given self.new ≡ source_given self.old + n) }
         ensures limit { source_given self.old ≤ most_bytes → source_given self.new ≤ most_bytes }
@@ -150,8 +147,8 @@ impl<R: Read> Read for Source<R> {
 
 /// A writer over another, which takes a text whole or fails for good.
 ///
-/// A write fails where the writer fails (an interrupted write too), and where it takes nothing of what is
-/// left. What the writer was given by then is a first part of the texts.
+/// A write fails if the writer fails (an interrupted write too) or takes none of the remaining
+/// bytes. What the writer has then is a prefix of the texts.
 #[derive(Drop)]
 pub struct Sink<W> {
     inner: W,
@@ -177,7 +174,7 @@ impl<W: Write> Sink<W> {
         self.failed
     }
 
-    /// Writes a text, all of it where the answer is `Ok`.
+    /// Writes a text. `Ok` means that all of it was written.
     pub fn put(&mut self, text: &[u8]) -> Result<(), WriteFault>
         ensures whole { OnOk result (Appends (W.contents (sink_inner self.old)) (W.contents (sink_inner self.new)) text.now) }
         ensures part { OnErr result (AppendsPrefix (W.contents (sink_inner self.old)) (W.contents (sink_inner self.new)) text.now) }
@@ -200,7 +197,7 @@ impl<W: Write> Sink<W> {
         Ok(())
     }
 
-    /// Writes a text, unless a write has failed or fails now: [`Sink::outcome`] tells.
+    /// Writes a text, unless a write has failed or fails now; ask [`Sink::outcome`].
     pub fn add(&mut self, text: &[u8])
         ensures { Wrote W.contents self.old self.new text.now }
     {
@@ -223,8 +220,8 @@ impl<W: Write> Sink<W> {
         self.field(digits.format(number).as_bytes());
     }
 
-    /// Writes a value as `{}` prints it. The text is made in `line`, whose old text goes; so one
-    /// buffer serves many calls. Where its memory runs out nothing is written.
+    /// Writes a value as `{}` prints it. The text is built in `line` and replaces what was there,
+    /// so one buffer serves many calls. If memory runs out, nothing is written.
     pub fn show<T: Display>(&mut self, value: &T, line: &mut String) -> Result<(), AllocError>
         ensures memory { OnErr result (self.new ≡ self.old) }
         ensures some { OnOk result (WroteSome W.contents self.old self.new) }
@@ -235,7 +232,7 @@ impl<W: Write> Sink<W> {
         Ok(())
     }
 
-    /// Adds the record of a verdict.
+    /// Adds the line of a verdict.
     pub fn verdict(&mut self, found: Result<(), Fault>)
         ensures { Wrote W.contents self.old self.new (verdict_text found) }
     {
@@ -250,7 +247,7 @@ impl<W: Write> Sink<W> {
         }
     }
 
-    /// How the writes went.
+    /// Whether all writes succeeded.
     pub fn outcome(&self) -> Result<(), WriteFault>
         ensures good { OnOk result (sink_failed self.now ≡ false) }
         ensures fault { OnErr result (sink_failed self.now ≡ true) }
@@ -265,7 +262,7 @@ impl<W: Write> Sink<W> {
         self.inner
     }
 
-    // One call of the writer: how many bytes it took, 0 also where it failed.
+    // One call of the writer: how many bytes it took, or 0 if it failed.
     fn put_some(&mut self, rest: &[u8]) -> usize
         ensures bound { result ≤ length rest.now }
         ensures bytes { Appends (W.contents (sink_inner self.old)) (W.contents (sink_inner self.new)) (take result rest.now) }

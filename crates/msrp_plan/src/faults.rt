@@ -1,4 +1,4 @@
-//! Why a plan is refused, which rule of a legal run a row breaks, and the answers of calls that want memory or write.
+//! Why a plan is refused, which rule a row violates, and the errors of allocation and writing.
 ghost use Rattle.std.specs.Prelude.{◌≡◌};
 ghost use Rattle.msrp_plan.specs.Codes.{code_of};
 ghost use Rattle.msrp_plan.specs.Words.{rule_text};
@@ -20,26 +20,26 @@ pub enum PlanFault {
     /// P3: a record has too few or too many fields.
     #[error("P3: a record has too few or too many fields")]
     FieldCount,
-    /// P4: a field that has to be a number is none.
+    /// P4: a field that must be a number isn't one.
     #[error("P4: a field is no number")]
     Number,
-    /// P5: a name that is declared is no name.
+    /// P5: a declared name isn't a name.
     #[error("P5: a field is no name")]
     Name,
-    /// P6: a task, or a resource, of that name stands already.
+    /// P6: a task, or a resource, of that name exists already.
     #[error("P6: a name stands already")]
     Taken,
-    /// P7: a number is out of its range, or there is one resource, task, unit, release or held resource too many.
+    /// P7: a number out of range, or a resource, task, unit, release or held resource too many.
     #[error("P7: a limit of plans is passed")]
     Limit,
     /// P8: a resource that was not declared.
     #[error("P8: a resource was not declared")]
     Undeclared,
-    /// P9: a core's number that is not below the number of cores.
+    /// P9: a core's number isn't below the number of cores.
     #[error("P9: a core is not below the number of cores")]
     Core,
-    /// P10: a lock of a resource that the task holds, an unlock of one that is not the innermost it holds,
-    /// or a resource that is still held at the task's end.
+    /// P10: a lock of a resource that the task holds, an unlock of one that isn't the innermost, or
+    /// a resource still held at the task's end.
     #[error("P10: locks and unlocks do not nest")]
     Nesting,
     /// P11: a global resource is locked while a global one is held.
@@ -57,7 +57,7 @@ pub enum PlanFault {
     /// P15: a read failed.
     #[error("P15: a read failed")]
     Read,
-    /// P16: memory was refused.
+    /// P16: out of memory.
     #[error("P16: memory was refused")]
     Memory,
 }
@@ -79,7 +79,7 @@ impl<T: Drop> From<AllocFailed<T>> for PlanFault {
 }
 
 impl PlanFault {
-    /// The number after P of the code: 1 for [`PlanFault::Version`] to 16 for [`PlanFault::Memory`].
+    /// The number after P of the code: 1 ([`PlanFault::Version`]) to 16 ([`PlanFault::Memory`]).
     pub fn code(self) -> u32
         ensures { result ≡ code_of self }
     {
@@ -104,7 +104,7 @@ impl PlanFault {
     }
 }
 
-/// Memory was refused.
+/// Out of memory.
 #[derive(Clone, Copy, Debug, Error, PartialEq, Eq)]
 #[error("memory was refused")]
 pub struct Memory;
@@ -126,27 +126,27 @@ impl<T: Drop> From<AllocFailed<T>> for Memory {
 #[error("a write failed")]
 pub struct WriteFault;
 
-/// The rules of a legal run, in the order in which a row is judged.
+/// The rules of a legal run (`docs/POLICY.md`), in the order in which a row is checked.
 #[derive(Clone, Copy, Debug, PartialEq, Eq)]
 pub enum Rule {
-    /// The tick is not the one that is due, or the core had its turn or does not exist.
+    /// The tick isn't the expected one, or the core already had its turn or doesn't exist.
     A1,
-    /// The row's job is no job of the core.
+    /// The row's job isn't a job of the core.
     A2,
-    /// The row's job is not the one to run.
+    /// The row's job isn't the one to run.
     A3,
-    /// The action is not the next one of the row's job.
+    /// The action isn't the next one of the row's job.
     A4,
-    /// The reply is not that of a first-in-first-out lock.
+    /// The reply isn't that of a first-in-first-out lock.
     A5,
-    /// The trace ends before each core had each of its turns.
+    /// The trace ends before each core had all of its turns.
     A6,
-    /// The trace goes on after each core had each of its turns.
+    /// The trace goes on after each core had all of its turns.
     A7,
 }
 
 impl Rule {
-    /// The code that texts tell the rule by.
+    /// The rule's code in texts.
     #[tactic(auto, unfolding(crate::specs::Words::rule_text))]
     pub fn code(self) -> &'static [u8]
         ensures { result.now ≡ rule_text self }
@@ -177,7 +177,7 @@ impl fmt::Display for Rule {
     }
 }
 
-/// The first row that breaks a rule, counted from 1, with the lowest rule that it breaks.
+/// The first row that violates a rule, counted from 1, with the lowest rule that it violates.
 #[derive(Clone, Copy, Debug, PartialEq, Eq)]
 pub struct Fault {
     pub row: u32,

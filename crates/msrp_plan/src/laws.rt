@@ -1,5 +1,5 @@
-//! What the definition of a legal run promises: laws over every plan and every start of a legal run,
-//! whatever the order of the cores. Each function does nothing; its contract is the law.
+//! What the definition of a legal run promises: laws over every plan and every start of a legal
+//! run, in any order of the cores. Each function does nothing; its contract is the law.
 ghost use Rattle.std.specs.Prelude.{◌≡◌, ◌-◌, ◌∷◌, ◌++◌, List, map, length, take, drop, count_by, true, false};
 ghost use Rattle.msrp_plan.specs.Aheads.{carries_ahead, without_ahead};
 ghost use Rattle.msrp_plan.specs.Plan.{PlanModel};
@@ -34,38 +34,37 @@ pub use broken::{
 pub use scheduling::{earliest_deadline_first, existence, runs_released, work_conservation};
 pub use stretches::{stays_again, stretch_ends};
 
-/// No local blocking: a job that has its turn never finds a local resource held by another job, of whatever
-/// core (Baker 1991). So a lock of a local resource takes one tick.
+/// No local blocking: a job that runs never finds a local resource held by another job, of any core
+/// (Baker 1991). So a lock of a local resource takes one tick.
 pub fn no_local_blocking()
     ensures { (plan : PlanModel) (rows : List Row) → IsPlan plan → IsRunStart plan rows → NoLocalBlocking plan rows }
 {}
 
-/// Mutual exclusion: at each place of a run at most one job holds a resource, global or local.
+/// Mutual exclusion: at each point of a run at most one job holds a resource, global or local.
 pub fn mutual_exclusion()
     ensures { (plan : PlanModel) (rows : List Row) → IsPlan plan → IsRunStart plan rows → MutualExclusion plan rows }
 {}
 
-/// Bounded overtaking: while a job waits for a global resource, others come to hold it at most one time less
-/// than there are cores.
+/// Bounded overtaking: on `m` cores, while a job waits for a global resource, others acquire it at
+/// most `m - 1` times (Gai, Lipari and Di Natale 2001).
 pub fn bounded_overtaking()
     ensures { (plan : PlanModel) (rows : List Row) → IsPlan plan → IsRunStart plan rows → BoundedOvertaking plan rows }
 {}
 
-/// Short queues: no job joins a queue of as many requests as there are cores.
+/// Short queues: on `m` cores no job joins a queue of `m` or more requests.
 pub fn short_queues()
     ensures { (plan : PlanModel) (rows : List Row) → IsPlan plan → IsRunStart plan rows → ShortQueues plan rows }
 {}
 
-/// Bounded spinning: in one wait for a global resource a job spins no more often than the bound that the plan
-/// gives its core: for each other core that uses the resource, 1 and its longest section, in units. All spins
-/// of the job count, on whatever resource.
+/// Bounded spinning: in one wait for a global resource a job spins at most as often as its core's
+/// bound: for each other core that uses the resource, 1 plus its longest section in units. All
+/// spins of the job count, on any resource.
 pub fn bounded_spinning()
     ensures { (plan : PlanModel) (rows : List Row) → IsPlan plan → IsRunStart plan rows → BoundedSpinning plan rows }
 {}
 
-/// Determinacy: the order in which the cores take their turns fixes the run. Two runs of one plan, or two
-/// starts of runs, with the same cores in the same order are equal, but for aheads that one of them carries and
-/// the other doesn't.
+/// Determinacy: the order of the cores' turns fixes the run. Two runs of one plan, or two starts of
+/// runs, with the same order are equal, except for aheads that only one of them carries.
 pub fn determinacy()
     ensures starts { (plan : PlanModel) (a b : List Row) → IsRunStart plan a → IsRunStart plan b → core_order a ≡ core_order b → map without_ahead a ≡ map without_ahead b }
     ensures carrying_starts { (plan : PlanModel) (a b : List Row) → IsRunStart plan a → IsRunStart plan b → core_order a ≡ core_order b → carries_ahead a ≡ true → carries_ahead b ≡ true → a ≡ b }
@@ -73,8 +72,8 @@ pub fn determinacy()
     ensures carrying_runs { (plan : PlanModel) (a b : List Row) → IsRun plan a → IsRun plan b → core_order a ≡ core_order b → carries_ahead a ≡ true → carries_ahead b ≡ true → a ≡ b }
 {}
 
-/// A worked run with a local resource: who is started later finds it free. Were it started past the ceiling,
-/// it would find it held, and both would hold it.
+/// A worked run with a local resource: a job started later finds it free. If the job were started
+/// in spite of the ceiling, it would find the resource held, and both would hold it.
 pub fn ceiling_keeps_a_lock_free()
     ensures laws { KeepsLaws blocked_by_the_ceiling.plan blocked_by_the_ceiling.rows }
     ensures held { holds blocked_by_the_ceiling.plan (take 4 blocked_by_the_ceiling.rows) 0 (job 0 0) ≡ true }
@@ -83,8 +82,8 @@ pub fn ceiling_keeps_a_lock_free()
     ensures two_holders { ¬ MutualExclusion blocked_by_the_ceiling.plan blocked_by_the_ceiling.past_the_ceiling }
 {}
 
-/// A worked run in which a global resource goes from one core to another. Were it taken while it is held, two
-/// would hold it.
+/// A worked run in which a global resource passes from one core to another. If it were taken while
+/// held, two jobs would hold it.
 pub fn handover_has_one_holder()
     ensures laws { KeepsLaws handover_within_a_tick.plan handover_within_a_tick.rows }
     ensures first { holds handover_within_a_tick.plan (take 4 handover_within_a_tick.rows) 0 (job 0 0) ≡ true }
@@ -92,7 +91,7 @@ pub fn handover_has_one_holder()
     ensures taken_when_held { ¬ MutualExclusion handover_within_a_tick.plan handover_within_a_tick.taken_when_held }
 {}
 
-/// A worked run in which a job joins a queue with a job of each other core ahead of it: no queue is longer.
+/// A worked run in which a job joins a queue with a job of each other core: no queue is longer.
 pub fn every_other_core_ahead()
     ensures laws { KeepsLaws three_in_a_queue.plan three_in_a_queue.rows }
     ensures ahead { length (fifo 0 (take 2 three_in_a_queue.rows)) ≡ three_in_a_queue.plan.cores - 1 }
@@ -101,8 +100,8 @@ pub fn every_other_core_ahead()
     ensures others { count_by (is_acquisition 0) (take 11 (drop 3 three_in_a_queue.rows)) ≡ 1 }
 {}
 
-/// A worked run in which, during one wait, others come to hold the resource as often as the law allows: one
-/// time less than there are cores.
+/// A worked run in which, during one wait, others acquire the resource as often as the law allows:
+/// one time less than there are cores.
 pub fn overtaken_as_often_as_can_be()
     ensures laws { KeepsLaws requested_again.plan requested_again.rows }
     ensures wait { IsWait (queue 2 0 (job 0 0) 0) (take 2 (drop 5 requested_again.rows)) (job 0 0) 0 }
@@ -110,7 +109,7 @@ pub fn overtaken_as_often_as_can_be()
     ensures others { count_by (is_acquisition 0) (take 2 (drop 5 requested_again.rows)) ≡ requested_again.plan.cores - 1 }
 {}
 
-/// A worked run in which a job spins twice, where the bound is 3: the other core's section, and a turn more.
+/// A worked run in which a job spins twice, with a bound of 3: the other core's section plus one.
 pub fn spins_within_the_bound()
     ensures laws { KeepsLaws handover_a_tick_later.plan handover_a_tick_later.rows }
     ensures wait { IsWait (queue 0 1 (job 1 0) 0) (take 5 (drop 2 handover_a_tick_later.rows)) (job 1 0) 0 }

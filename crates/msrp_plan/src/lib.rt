@@ -1,8 +1,8 @@
 //! Plans, rows and traces, and the definitions that every promise of this repository is stated in.
 //!
-//! A [`PlanBuilder`] judges a plan call by call, and makes a [`Plan`] of it, which is well formed. What a legal run of a
-//! plan is stands in `specs/`, to which `docs/DEFINITIONS.md` leads; [`definitions`] and [`laws`] are theorems about it,
-//! and [`worked`] are examples of it.
+//! A [`PlanBuilder`] checks a plan call by call and makes a well-formed [`Plan`]. `specs/` defines
+//! the legal runs of a plan (`docs/DEFINITIONS.md` leads through it); [`definitions`] and [`laws`]
+//! are theorems about them, and [`worked`] has examples.
 #![tactic(auto)]
 
 mod builder;

@@ -1,4 +1,4 @@
-//! The limits that every plan keeps. The builder refuses what is past one of them: too many jobs as P13, all else as P7.
+//! The limits of every plan. Beyond one, the builder refuses too many jobs as P13, all else as P7.
 ghost use Rattle.std.specs.Prelude.{◌≡◌};
 ghost use Rattle.msrp_plan.specs.Limits.{most_cores, most_ticks, most_tasks, most_resources, most_units, most_held, most_jobs, most_releases, longest_time, most_bytes, most_calls};
 
@@ -25,13 +25,13 @@ pub const MOST_HELD: usize = 8;
 /// The most jobs of a plan.
 pub const MOST_JOBS: u32 = 8_192;
 
-/// The most releases of a listed task, those after the plan's ticks among them.
+/// The most releases of a listed task, those after the plan's end included.
 pub const MOST_RELEASES: usize = 8_192;
 
 /// The greatest period, relative deadline, offset and tick of a listed release, in ticks.
 pub const LONGEST_TIME: u32 = 1_000_000;
 
-/// The constants are the limits that the definitions state, those of a source of bytes too.
+/// These constants are the limits that the definitions name, those of a source of bytes included.
 pub fn stated()
     ensures cores { MOST_CORES ≡ most_cores }
     ensures ticks { MOST_TICKS ≡ most_ticks }

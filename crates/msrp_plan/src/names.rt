@@ -3,7 +3,7 @@ ghost use Rattle.std.specs.Prelude.{◌≡◌};
 ghost use Rattle.std.specs.List.{list_all};
 ghost use Rattle.msrp_plan.specs.Names.{is_name, is_name_byte};
 
-/// Whether a text is a name: a letter `a` to `z` and then at most 15 letters, digits or underscores.
+/// Whether a text is a name: a letter `a` to `z`, then at most 15 letters, digits or underscores.
 pub fn is_name(text: &str) -> bool
     ensures { result ≡ is_name text.now }
 {
@@ -15,14 +15,12 @@ pub fn is_name(text: &str) -> bool
     }
 }
 
-// Whether each byte may stand in a name.
 fn are_name_bytes(bytes: &[u8]) -> bool
     ensures { result ≡ list_all is_name_byte bytes.now }
 {
     bytes.iter().all(|byte| is_name_byte(*byte))
 }
 
-// Whether a byte may stand in a name.
 fn is_name_byte(byte: u8) -> bool
     ensures { result ≡ is_name_byte byte }
 {

@@ -1,4 +1,4 @@
-//! What a plan and its builder are made of.
+//! What a plan and its builder share: the numbers, and the resources and tasks by name.
 ghost use Rattle.std.specs.Prelude.{◌≡◌, ◌≤◌, length};
 ghost use Rattle.std.specs.Option.{option_map};
 ghost use Rattle.msrp_plan.specs.Limits.{most_resources};

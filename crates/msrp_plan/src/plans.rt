@@ -1,5 +1,5 @@
-//! Accepted plans. Only a builder makes them, so each is well formed (`IsPlan`), and its readers say so. Tasks and
-//! resources go by their numbers, from 0, in the order of their declaration.
+//! Accepted plans. Only a builder makes one, so each is well formed (`IsPlan`). Tasks and resources
+//! are numbered from 0 in the order of declaration.
 ghost use Rattle.std.specs.Prelude.{◌≡◌, ◌<◌, ◌≤◌, ◌+◌, ◌*◌, ◌^◌, ℕ, length, map, IsSome, IsSomeAnd, Some, slice_get};
 ghost use Rattle.std.specs.List.{range_with_len};
 ghost use Rattle.std.specs.Option.{option_map};
@@ -20,7 +20,7 @@ use crate::times::Times;
 use crate::units::Op;
 use std::marker::Model;
 
-/// An accepted plan: tasks that recur, partitioned over cores, with the resources that they lock.
+/// An accepted plan: recurring tasks, partitioned over cores, and the resources that they lock.
 #[derive(Debug, Drop)]
 pub struct Plan {
     pub(crate) parts: Parts,
@@ -74,7 +74,6 @@ impl Plan {
         self.parts.resources.len() as u32
     }
 
-    // The task of a number, with its name.
     fn named_task(&self, task: TaskId) -> (&String, &Task)
         requires { task.0 < length self.now.tasks }
         ensures stored { task_view (result.0.now, result.1.now) ≡ task_at self.now task.0 }
@@ -118,7 +117,7 @@ impl Plan {
         self.parts.res_of(name)
     }
 
-    /// Whether tasks of two cores use a resource.
+    /// Whether tasks of at least two cores use the resource (POLICY rule 4).
     pub fn is_global(&self, res: ResId) -> bool
         requires { res.0 < length self.now.resources }
         ensures { result ≡ is_global self.now res.0 }
@@ -143,7 +142,7 @@ impl Plan {
         self.named_task(task).1.releases.times()
     }
 
-    /// The relative deadline of a task, in ticks from the release of each of its jobs.
+    /// The relative deadline of a task, in ticks from each job's release.
     pub fn deadline(&self, task: TaskId) -> u32
         requires { task.0 < length self.now.tasks }
         ensures { result ≡ (task_at self.now task.0).deadline }
@@ -159,7 +158,7 @@ impl Plan {
         self.named_task(task).1.units.len() as u32
     }
 
-    /// The units of a task, to be read one after another.
+    /// The units of a task, for reading several of them.
     pub fn units_of(&self, task: TaskId) -> Units<'_>
         requires { task.0 < length self.now.tasks }
         ensures { result ≡ (task_at self.now task.0).units }
@@ -167,7 +166,7 @@ impl Plan {
         self.named_task(task).1.lent_units()
     }
 
-    /// A unit of a task, by its place from 0.
+    /// A unit of a task, by its index from 0.
     pub fn unit(&self, task: TaskId, place: u32) -> Op
         requires task { task.0 < length self.now.tasks }
         requires place { place < length (task_at self.now task.0).units }
@@ -176,8 +175,8 @@ impl Plan {
         self.units_of(task).unit(place as usize)
     }
 
-    /// The number of jobs of a task: of its releases before the plan's ticks are over. The task's jobs are those
-    /// numbered below it.
+    /// The number of jobs of a task: its releases before the plan's end. Jobs are numbered below
+    /// it.
     pub fn jobs(&self, task: TaskId) -> u32
         requires { task.0 < length self.now.tasks }
         ensures count { result ≡ length (jobs_of self.now task.0) }
@@ -190,7 +189,7 @@ impl Plan {
             .count_before(self.parts.ticks)
     }
 
-    /// The number of jobs of a core: of those of its tasks.
+    /// The number of jobs of a core's tasks.
     pub fn jobs_on(&self, core: CoreId) -> usize
         ensures count { result ≡ length (jobs_on self.now core.0) }
         ensures plan { IsPlan self.now }
@@ -204,9 +203,9 @@ impl Plan {
         jobs
     }
 
-    /// The tick in which a job is released. A periodic task has a release for each `k`, and a listed one for each below
-    /// the number of ticks in its list; those that come when the plan's ticks are over are told too, although no job of
-    /// the plan is released then.
+    /// The tick in which a job is released: any `k` of a periodic task, and each `k` below the
+    /// list's length of a listed one. Releases after the plan's end are included, but release no
+    /// job.
     pub fn release(&self, job: JobId) -> u64
         requires task { job.task.0 < length self.now.tasks }
         requires released { IsSome (release_tick self.now job) }
@@ -216,7 +215,7 @@ impl Plan {
         self.named_task(job.task).1.releases.tick(job.k)
     }
 
-    /// What the jobs of a core are ordered by. Told wherever [`Plan::release`] is.
+    /// What the jobs of a core are ordered by, for every `k` that [`Plan::release`] accepts.
     pub fn job_key(&self, job: JobId) -> JobKey
         requires task { job.task.0 < length self.now.tasks }
         requires released { IsSome (release_tick self.now job) }

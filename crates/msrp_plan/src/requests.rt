@@ -1,4 +1,4 @@
-//! The queue of a resource, as rows tell it.
+//! The queue of a resource, found from the rows on it.
 ghost use Rattle.std.specs.Prelude.{◌≡◌, ◌++◌, ◌+◌, ◌-◌, ◌^◌, ◌∷◌, ℕ, List, [], cond, min, OnErr, OnOk};
 ghost use Rattle.std.specs.List.{cons_option};
 ghost use Rattle.msrp_plan.specs.Queues.{fifo, is_release_of, requester};
@@ -10,7 +10,7 @@ use crate::ids::{JobId, ResId};
 use crate::rows::{Kind, Row};
 use std::alloc::Global;
 
-/// The requests of a resource in the rows so far, in order, and how many releases there were.
+/// The requests of a resource so far, in order, and the number of releases.
 #[derive(Debug, Drop)]
 pub struct Requests {
     res: ResId,
@@ -18,7 +18,6 @@ pub struct Requests {
     releases: usize,
 }
 
-// The job of a row that requests the resource.
 fn requester(res: ResId, row: &Row) -> Option<JobId>
     ensures { result ≡ requester res.0 row.now }
 {
@@ -29,7 +28,6 @@ fn requester(res: ResId, row: &Row) -> Option<JobId>
     }
 }
 
-// Whether the row releases the resource.
 fn is_release_of(res: ResId, row: &Row) -> bool
     ensures { result ≡ is_release_of res.0 row.now }
 {
@@ -37,7 +35,7 @@ fn is_release_of(res: ResId, row: &Row) -> bool
 }
 
 impl Requests {
-    /// Those of a resource, before the first row.
+    /// An empty queue, before the first row.
     pub fn of(alloc: Global, res: ResId) -> Requests
         ensures { HasTaken result res.0 [] }
     {
@@ -48,7 +46,7 @@ impl Requests {
         }
     }
 
-    /// Takes one row more, whatever it is on. Where memory is refused, it isn't taken.
+    /// Reads one more row, on any resource. If memory runs out, it isn't read.
     pub fn take(&mut self, row: &Row) -> Result<(), Memory>
         ensures taken { (g : ℕ) (rows : List TraceRow) → HasTaken self.old g rows → OnOk result (HasTaken self.new g (rows ++ row.now ∷ [])) }
         ensures kept { (g : ℕ) (rows : List TraceRow) → HasTaken self.old g rows → OnErr result (HasTaken self.new g rows) }
@@ -58,14 +56,14 @@ impl Requests {
         Ok(())
     }
 
-    /// The jobs that stand in the queue, the first in front.
+    /// The jobs in the queue, the first in front.
     pub fn queue(&self) -> &[JobId]
         ensures { (g : ℕ) (rows : List TraceRow) → HasTaken self.now g rows → result.now ≡ fifo g rows }
     {
         &self.jobs[self.releases.min(self.jobs.len())..]
     }
 
-    // Takes the request of a job, if there is one.
+    // Adds the request of a job, if there is one.
     fn request(&mut self, job: Option<JobId>) -> Result<(), Memory>
         ensures jobs { OnOk result (self.new.jobs.items ≡ self.old.jobs.items ++ cons_option job []) }
         ensures kept { OnErr result (self.new.jobs.items ≡ self.old.jobs.items) }
@@ -78,7 +76,7 @@ impl Requests {
         Ok(())
     }
 
-    // Takes a release, if it is one.
+    // Counts a release, if it is one.
     fn release(&mut self, is_release: bool)
         ensures jobs { self.new.jobs ≡ self.old.jobs }
         ensures res { self.new.res ≡ self.old.res }

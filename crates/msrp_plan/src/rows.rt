@@ -1,4 +1,4 @@
-//! Rows of a trace: each is one turn of one core in one tick.
+//! Rows of a trace: each is one turn of one core in one tick (POLICY rules 10 to 14).
 ghost use Rattle.std.specs.Prelude.{◌≡◌, ◌≤◌, length, true};
 ghost use Rattle.msrp_plan.specs.Shape.{has_shape, may_carry};
 ghost use Rattle.msrp_plan.specs.Words.{kind_text};
@@ -20,16 +20,16 @@ pub enum Kind {
     Take,
     /// A request of a global resource that joins the end of the queue.
     Queue,
-    /// A poll of a queued job that stands further back in the queue.
+    /// A poll of a job that others in the queue are before.
     Spin,
-    /// A poll of a queued job that stands first: it holds the resource from here on.
+    /// A poll of the first job in the queue: it holds the resource from now on.
     Grant,
     /// A release of a global resource.
     Release,
 }
 
 impl Kind {
-    /// The word that texts tell the kind by.
+    /// The kind's word in texts.
     #[tactic(auto, unfolding(crate::specs::Words::kind_text))]
     pub fn word(self) -> &'static [u8]
         ensures word { result.now ≡ kind_text self }
@@ -49,8 +49,8 @@ impl Kind {
     }
 }
 
-/// One turn of one core in one tick. An idle row has neither job nor resource, a row of work has a job
-/// alone, and every other row has both. A row of the text of version 1 carries no ahead.
+/// One turn of one core in one tick. An idle row has neither job nor resource, a row of work has
+/// only a job, every other row has both. Trace text of version 1 carries no ahead.
 #[derive(Clone, Copy, Debug, PartialEq, Eq)]
 pub struct Row {
     pub tick: u32,
@@ -58,7 +58,7 @@ pub struct Row {
     pub kind: Kind,
     pub job: Option<JobId>,
     pub res: Option<ResId>,
-    /// On a queue row how many stood in the queue before its job, if that is known; on any other row none.
+    /// On a queue row the number of jobs that were in the queue, if known; on any other row none.
     pub ahead: Option<u32>,
     ghost shape: { has_shape kind job res ≡ true },
     ghost carrier: { may_carry kind ahead ≡ true },
@@ -67,7 +67,7 @@ pub struct Row {
 impl Row {
     ghost use Rattle.msrp_plan.specs.Aheads.{HasReply, without_ahead};
 
-    /// The row, as it is in another tick.
+    /// The row, in another tick.
     #[inline(always)]
     pub fn in_tick(self, tick: u32) -> Row
         ensures { result ≡ record self { tick = tick } }
@@ -82,7 +82,7 @@ impl Row {
         }
     }
 
-    /// The row with another answer: the kind that tells it, and how many stand ahead.
+    /// The row with another answer: its kind, and the number of jobs ahead.
     #[inline(always)]
     pub fn with_reply(self, kind: Kind, ahead: Option<u32>) -> Row
         requires shape { has_shape kind self.job self.res ≡ true }
@@ -99,7 +99,7 @@ impl Row {
         }
     }
 
-    /// The row, without how many stand ahead.
+    /// The row without the number of jobs ahead.
     #[inline(always)]
     pub fn without_ahead(self) -> Row
         ensures { result ≡ without_ahead self }
@@ -118,8 +118,8 @@ impl Row {
 /// The versions of plan text and trace text.
 #[derive(Clone, Copy, Debug, PartialEq, Eq)]
 pub enum TextVersion {
-    /// Tasks of a period alone; rows without aheads.
+    /// Periodic tasks only; rows without aheads.
     V1,
-    /// Tasks with a list of releases too; rows with the ahead of each queue row.
+    /// Listed tasks too; each queue row has its ahead.
     V2,
 }

@@ -1,11 +1,10 @@
-//! The units of a task, as they are read.
+//! A task's units, lent so that several reads need one lookup of the task.
 ghost use Rattle.std.specs.Prelude.{◌≡◌, ◌≢◌, ◌<◌, ◌≤◌, ◌+◌, [], ℕ, Some, length, slice_get, true, false};
 ghost use Rattle.msrp_plan.specs.declared.units.Op.TheVariants.{Run};
 
 use crate::units::Op;
 use std::marker::Model;
 
-// The unit at a place.
 fn unit_at(units: &[Op], place: usize) -> Op
     requires { place < length units.now }
     ensures { slice_get units.now place ≡ Some result }
@@ -13,8 +12,7 @@ fn unit_at(units: &[Op], place: usize) -> Op
     units[place]
 }
 
-/// The units of a task, as [`Plan::units_of`](crate::Plan::units_of) lends them: whoever reads
-/// several looks for the task once.
+/// A task's units, lent by [`Plan::units_of`](crate::Plan::units_of), found by one lookup.
 #[derive(Drop)]
 pub struct Units<'a> {
     units: &'a [Op],
@@ -30,7 +28,6 @@ impl<'a> Model for Units<'a> {
 }
 
 impl<'a> Units<'a> {
-    /// All of these units.
     pub(crate) fn all(units: &'a [Op]) -> Units<'a>
         ensures { result ≡ units.now }
     {
@@ -44,14 +41,14 @@ impl<'a> Units<'a> {
         Units { units: &[] }
     }
 
-    /// How many units there are.
+    /// The number of units.
     pub fn len(&self) -> usize
         ensures { result ≡ length self.now }
     {
         self.units.len()
     }
 
-    /// The unit at a place, counted from 0.
+    /// The unit at an index, from 0.
     pub fn unit(&self, place: usize) -> Op
         requires { place < length self.now }
         ensures { slice_get self.now place ≡ Some result }
@@ -59,7 +56,6 @@ impl<'a> Units<'a> {
         unit_at(self.units, place)
     }
 
-    // Whether the unit at a place is work.
     fn is_work(&self, place: usize) -> bool
         ensures works { result ≡ true → slice_get self.now place ≡ Some Run }
         ensures other { result ≡ false → slice_get self.now place ≢ Some Run }
@@ -67,7 +63,7 @@ impl<'a> Units<'a> {
         matches!(self.units.get(place), Some(Op::Run))
     }
 
-    /// How many units from a place on are work, one after another, of at most so many.
+    /// How many consecutive units from `place` on are work, counted up to `most`.
     pub fn work(&self, place: u32, most: u32) -> u32
         ensures most { result ≤ most }
         ensures work { (i : ℕ) → place ≤ i → i < place + result → slice_get self.now i ≡ Some Run }

@@ -1,4 +1,4 @@
-//! Tasks as a plan and its builder store them.
+//! Stored tasks: a map by name in the order of declaration, so that an index is a task's number.
 ghost use Rattle.std.specs.Prelude.{◌≡◌, ◌<◌, ◌+◌, ◌++◌, ◌∷◌, [], ◌^◌, ℕ, false, List, length, map, replicate, vec_len, OnOk, OnErr};
 ghost use Rattle.msrp_plan.specs.Building.{with_more_ticks, with_more_units, with_newest};
 ghost use Rattle.msrp_plan.specs.Names.{has_name};
@@ -11,7 +11,7 @@ use crate::units::Op;
 use indexmap::IndexMap;
 use std::alloc::{AllocError, Global};
 
-// A task as it is stored, under its name.
+// A stored task; its name is the key.
 #[derive(Debug, Drop)]
 pub(crate) struct Task {
     pub(crate) core: CoreId,
@@ -21,14 +21,14 @@ pub(crate) struct Task {
 }
 
 impl Task {
-    // Its units, to be read.
+    // Lends its units for reading.
     pub(crate) fn lent_units(&self) -> Units<'_>
         ensures { result ≡ self.now.units.items }
     {
         Units::all(&self.units)
     }
 
-    // More units of one kind.
+    // Adds `count` units of one kind.
     pub(crate) fn add_units(&mut self, count: u32, unit: Op) -> Result<(), AllocError>
         ensures added { OnOk result ((name : List ℕ) → named_view name self.new ≡ with_more_units (replicate count unit) (named_view name self.old)) }
         ensures kept { OnErr result ((name : List ℕ) → named_view name self.new ≡ named_view name self.old) }
@@ -37,7 +37,7 @@ impl Task {
         self.units.resize(size, unit)
     }
 
-    // One release more.
+    // Adds a release.
     pub(crate) fn add_release(&mut self, tick: u32) -> Result<(), AllocError>
         ensures added { OnOk result ((name : List ℕ) → named_view name self.new ≡ with_more_ticks tick (named_view name self.old)) }
         ensures kept { OnErr result ((name : List ℕ) → named_view name self.new ≡ named_view name self.old) }
@@ -46,7 +46,7 @@ impl Task {
     }
 }
 
-// A task of a new name goes last.
+// Appends a task of a new name.
 pub(crate) fn add_task(
     alloc: Global,
     tasks: &mut IndexMap<String, Task>,
@@ -62,7 +62,7 @@ pub(crate) fn add_task(
     Ok(())
 }
 
-// More units of one kind for the newest task.
+// Adds units of one kind to the newest task.
 pub(crate) fn add_units(
     tasks: &mut IndexMap<String, Task>,
     count: u32,
@@ -77,7 +77,7 @@ pub(crate) fn add_units(
     newest.add_units(count, unit)
 }
 
-// One release more of the newest task.
+// Adds a release to the newest task.
 pub(crate) fn add_release(tasks: &mut IndexMap<String, Task>, tick: u32) -> Result<(), AllocError>
     requires { 0 < length tasks.old.entries }
     ensures added { OnOk result (map task_view tasks.new.entries ≡ with_newest (with_more_ticks tick) (map task_view tasks.old.entries)) }

@@ -1,4 +1,4 @@
-//! When the jobs of a task are released: once in each period from an offset on, or at the ticks of a list.
+//! When the jobs of a task are released: once a period from an offset on, or at listed ticks.
 ghost use Rattle.std.specs.Prelude.{◌≡◌, ◌<◌, ◌≤◌, ◌*◌, ◌^◌, ◌==◌, ℕ, length, nat_lt, IsSome, Some, OnOk, OnErr, vec_len};
 ghost use Rattle.msrp_plan.specs.ReleaseTimes.{AreTimes, is_listed, lacks_release, listed_ticks, tick_of, with_tick};
 ghost use Rattle.msrp_plan.specs.Limits.{longest_time};
@@ -12,7 +12,7 @@ use std::alloc::AllocError;
 pub enum Times {
     /// Job `k` is released at `offset + k * period`.
     Every { period: u32, offset: u32 },
-    /// The jobs are released at the ticks of a list of so many.
+    /// The jobs are released at `count` listed ticks.
     Listed { count: u32 },
 }
 
@@ -24,7 +24,7 @@ pub(crate) enum Releases {
 }
 
 impl Releases {
-    // What a reader of a plan is told of them.
+    // The release times as a plan's reader sees them.
     pub(crate) fn times(&self) -> Times
         requires { AreTimes (times_view self.now) }
         ensures { result ≡ times_told (times_view self.now) }
@@ -66,14 +66,13 @@ impl Releases {
         }
     }
 
-    // Whether they are a list.
     pub(crate) fn is_listed(&self) -> bool
         ensures { result ≡ is_listed (times_view self.now) }
     {
         matches!(self, Releases::Listed(_))
     }
 
-    // The ticks of a list.
+    // The ticks of a list; none for a periodic task.
     pub(crate) fn listed(&self) -> &[u32]
         ensures { result.now ≡ listed_ticks (times_view self.now) }
     {
@@ -83,14 +82,14 @@ impl Releases {
         }
     }
 
-    // Whether they are a list without a tick.
+    // Whether they are a list that is still empty.
     pub(crate) fn is_empty(&self) -> bool
         ensures { result ≡ lacks_release (times_view self.now) }
     {
         self.is_listed() && self.listed().is_empty()
     }
 
-    // One tick more of a list.
+    // Adds a tick to the list.
     pub(crate) fn push(&mut self, tick: u32) -> Result<(), AllocError>
         ensures added { OnOk result (times_view self.new ≡ with_tick (times_view self.old) tick) }
         ensures kept { OnErr result (times_view self.new ≡ times_view self.old) }

@@ -1,7 +1,7 @@
-//! What tasks are made of, and what a core does with a global resource.
+//! The units of tasks, and a core's calls of global resources.
 use crate::ids::ResId;
 
-/// One unit of a task: it takes one tick where nothing has to be awaited.
+/// One unit of a task: one tick, unless the job has to wait.
 #[derive(Clone, Copy, Debug, PartialEq, Eq)]
 pub enum Op {
     /// A unit of work.
@@ -12,10 +12,10 @@ pub enum Op {
     Unlock(ResId),
 }
 
-/// What a builder takes: as [`Op`], with a run of any length.
+/// What a builder takes: an [`Op`], or a run of any length.
 #[derive(Clone, Copy, Debug, PartialEq, Eq)]
 pub enum Step {
-    /// So many units of work.
+    /// This many units of work.
     Run(u32),
     /// A lock of a local resource, or a request of a global one.
     Lock(ResId),
@@ -23,7 +23,7 @@ pub enum Step {
     Unlock(ResId),
 }
 
-/// What a core has to do with the global resources: a core holds or awaits at most one.
+/// What a core has to do with global resources: it holds or awaits at most one.
 #[derive(Clone, Copy, Debug, PartialEq, Eq)]
 pub enum Phase {
     /// It neither holds nor awaits one.
@@ -37,9 +37,9 @@ pub enum Phase {
 /// A call of a first-in-first-out lock, with its answer.
 #[derive(Clone, Copy, Debug, PartialEq, Eq)]
 pub enum Call {
-    /// A request, and how many were ahead of it; with none ahead it is granted at once.
+    /// A request, and the number ahead of it; with none ahead it is granted at once.
     Ask(u32),
-    /// A poll of a request that waits, and whether it was granted.
+    /// A poll of a waiting request, and whether it was granted.
     Poll(bool),
     /// A release.
     Leave,

@@ -9,7 +9,7 @@ use crate::tasks::Task;
 use crate::units::Op;
 use indexmap::IndexMap;
 
-// The users of a resource, by the cores that they are on.
+// The cores that use a resource: none, one, or several.
 #[derive(Clone, Copy, Debug, PartialEq, Eq)]
 pub(crate) enum Users {
     Nobody,
@@ -18,7 +18,7 @@ pub(crate) enum Users {
 }
 
 impl Users {
-    // One user more, on a core.
+    // Adds a user on a core.
     fn with(self, core: CoreId) -> Users
         ensures { (on : ℕ → Bool) → AreOn on self → AreOn (λ c. on c || (core.0 == c)) result }
     {
@@ -29,7 +29,6 @@ impl Users {
         }
     }
 
-    // Whether they are on two cores at least.
     pub(crate) fn are_on_two(self) -> bool
         ensures { result ≡ are_on_two self }
     {
@@ -37,7 +36,7 @@ impl Users {
     }
 }
 
-// One user more of a resource, on a core. A number past the limit is no resource's.
+// Adds a user of a resource, on a core. A number above the limit is ignored.
 fn add_user(users: &mut [Users; MOST_RESOURCES], res: ResId, core: CoreId)
     ensures { (on : ℕ → ℕ → Bool) → EachIsOn on users.old → EachIsOn (λ g c. on g c || ((res.0 == g) && (core.0 == c))) users.new }
 {
@@ -47,7 +46,7 @@ fn add_user(users: &mut [Users; MOST_RESOURCES], res: ResId, core: CoreId)
     }
 }
 
-// A task is a user of each resource that it locks.
+// Adds the task as a user of each resource that it locks.
 fn add_task(users: &mut [Users; MOST_RESOURCES], task: &Task)
     ensures { (on : ℕ → ℕ → Bool) → EachIsOn on users.old → EachIsOn (λ g c. on g c || is_user_on g c task.now) users.new }
 {
@@ -59,7 +58,6 @@ fn add_task(users: &mut [Users; MOST_RESOURCES], task: &Task)
     }
 }
 
-// The users of each resource, by its number.
 pub(crate) fn users_of(tasks: &IndexMap<String, Task>) -> [Users; MOST_RESOURCES]
     ensures { EachIsOn (is_used_on (values tasks.now)) result }
 {

@@ -1,6 +1,6 @@
-//! Worked examples, computed from the definitions alone: of each plan a legal run, and beside it rows that
-//! aren't legal, with the verdict on them. Each function does nothing; its contract is the example. The plans
-//! and rows stand in `specs/Examples`.
+//! Worked examples, computed from the definitions alone: for each plan a legal run, and rows that
+//! aren't legal with the verdict on them. Each function does nothing; its contract is the example.
+//! The plans and rows are in `specs/Examples`.
 ghost use Rattle.std.specs.Prelude.{◌≡◌, true, false, [], ◌∷◌, ◌++◌, Some, None, codes, map, replicate};
 ghost use Rattle.msrp_plan.specs.Aheads.{carries_ahead};
 ghost use Rattle.msrp_plan.specs.Levels.{level, local_ceiling, top, is_global};
@@ -43,21 +43,20 @@ pub fn nothing_to_do()
     ensures run { IsRun nothing_to_do.plan nothing_to_do.rows }
 {}
 
-/// One task on one core: it works and then the core idles. Too much work, or idling while a job waits, isn't
-/// legal.
+/// One task on one core works, then the core idles. Too much work, or idling too soon, isn't legal.
 pub fn work_then_idle()
     ensures run { IsRun work_then_idle.plan work_then_idle.rows }
     ensures too_long { verdict work_then_idle.plan work_then_idle.too_long ≡ fault 3 A3 }
     ensures too_late { verdict work_then_idle.plan work_then_idle.too_late ≡ fault 1 A3 }
 {}
 
-/// A relative deadline may be above the period: jobs of one task go one after the other.
+/// A relative deadline may exceed the period: a task's jobs still run one after another.
 pub fn deadline_above_period()
     ensures run { IsRun deadline_above_period.plan deadline_above_period.rows }
     ensures next_job_first { verdict deadline_above_period.plan deadline_above_period.next_job_first ≡ fault 4 A3 }
 {}
 
-/// A task is released at the ticks of its list, and at no others.
+/// A listed task is released at the ticks of its list and at no others.
 pub fn listed_releases()
     ensures run { IsRun listed_releases.plan listed_releases.rows }
     ensures late_release { IsRun listed_releases.with_a_late_release listed_releases.rows }
@@ -66,7 +65,7 @@ pub fn listed_releases()
     ensures late_job { verdict listed_releases.with_a_late_release listed_releases.third_job ≡ fault 5 A2 }
 {}
 
-/// A job whose level isn't above the current ceiling isn't started, although its deadline is earlier (Baker
+/// A job whose level isn't above the ceiling isn't started, even with an earlier deadline (Baker
 /// 1991).
 pub fn blocked_by_the_ceiling()
     ensures run { IsRun blocked_by_the_ceiling.plan blocked_by_the_ceiling.rows }
@@ -78,35 +77,35 @@ pub fn blocked_by_the_ceiling()
     ensures local { is_global blocked_by_the_ceiling.plan 0 ≡ false }
 {}
 
-/// A job of a level above the ceiling preempts who holds a local resource that it doesn't use.
+/// A job whose level is above the ceiling preempts the holder of a local resource.
 pub fn preempts_a_section()
     ensures run { IsRun preempts_a_section.plan preempts_a_section.rows }
     ensures without_preemption { verdict preempts_a_section.plan preempts_a_section.without_preemption ≡ fault 2 A3 }
     ensures ceiling_r { local_ceiling preempts_a_section.plan 0 ≡ 1 }
 {}
 
-/// Equal absolute deadlines never preempt: who was released first goes first.
+/// Equal absolute deadlines never preempt: the job released first runs first.
 pub fn equal_deadlines()
     ensures run { IsRun equal_deadlines.plan equal_deadlines.rows }
     ensures preempted { verdict equal_deadlines.plan equal_deadlines.preempted ≡ fault 3 A3 }
 {}
 
-/// Two jobs of equal absolute deadlines, of which the one of the higher task number is released first: the release is compared before
-/// the task's number.
+/// Two jobs of equal absolute deadlines; the one of the higher task number is released first. The
+/// release is compared before the task number.
 pub fn equal_deadlines_reversed()
     ensures run { IsRun equal_deadlines_reversed.plan equal_deadlines_reversed.rows }
     ensures by_task_number { verdict equal_deadlines_reversed.plan equal_deadlines_reversed.by_task_number ≡ fault 3 A3 }
 {}
 
-/// A blocked head holds up the jobs behind it, also one of a level above the ceiling.
+/// A blocked head holds up the jobs after it, even one whose level exceeds the ceiling.
 pub fn blocked_head()
     ensures run { IsRun blocked_head.plan blocked_head.rows }
     ensures past_the_head { verdict blocked_head.plan blocked_head.past_the_head ≡ fault 13 A3 }
     ensures past_the_ceiling { verdict blocked_head.plan blocked_head.past_the_ceiling ≡ fault 13 A3 }
 {}
 
-/// A global resource goes from core to core within a tick, if the cores' turns come so. Beside the run, rows
-/// that break each of the rules.
+/// A global resource passes between cores within a tick if the order of turns allows. Also rows
+/// that violate each of the rules.
 pub fn handover_within_a_tick()
     ensures run { IsRun handover_within_a_tick.plan handover_within_a_tick.rows }
     ensures without_ahead { carries_ahead handover_within_a_tick.rows ≡ false }
@@ -128,20 +127,20 @@ pub fn handover_within_a_tick()
     ensures doubled { verdict handover_within_a_tick.plan handover_within_a_tick.doubled ≡ fault 13 A7 }
 {}
 
-/// A global resource is released in a tick in which the core that waits for it had its turn before: it is granted in the next tick.
+/// A resource released after the waiting core's turn in that tick is granted in the next tick.
 pub fn handover_a_tick_later()
     ensures run { IsRun handover_a_tick_later.plan handover_a_tick_later.rows }
     ensures before_the_release { verdict handover_a_tick_later.plan handover_a_tick_later.before_the_release ≡ fault 5 A5 }
 {}
 
-/// A queue is served in the order of its requests (Gai, Lipari and Di Natale 2001).
+/// A queue is served in request order (Gai, Lipari and Di Natale 2001).
 pub fn three_in_a_queue()
     ensures run { IsRun three_in_a_queue.plan three_in_a_queue.rows }
     ensures out_of_order { verdict three_in_a_queue.plan three_in_a_queue.out_of_order ≡ fault 9 A5 }
 {}
 
-/// A core stands at its highest level while one of its jobs holds a global resource. A resource is global by
-/// the tasks that use it, whether they have jobs or not.
+/// A core's ceiling is its highest level while one of its jobs holds a global resource. A resource
+/// is global because of the tasks that use it, with or without jobs.
 pub fn raised_while_holding()
     ensures run { IsRun raised_while_holding.plan raised_while_holding.rows }
     ensures holder_preempted { verdict raised_while_holding.plan raised_while_holding.holder_preempted ≡ fault 3 A3 }
@@ -154,13 +153,13 @@ pub fn raised_while_holding()
     ensures top_1 { top raised_while_holding.plan 1 ≡ 1 }
 {}
 
-/// A core stands at its highest level already while one of its jobs is queued.
+/// A core's ceiling is its highest level as soon as one of its jobs is queued.
 pub fn raised_while_queued()
     ensures run { IsRun raised_while_queued.plan raised_while_queued.rows }
     ensures waiter_preempted { verdict raised_while_queued.plan raised_while_queued.waiter_preempted ≡ fault 4 A3 }
 {}
 
-/// A local section inside a global one: h is local, since one core alone uses it.
+/// A local section inside a global one: `h` is local, since only one core uses it.
 pub fn local_inside_global()
     ensures run { IsRun local_inside_global.plan local_inside_global.rows }
     ensures taken_as_global { verdict local_inside_global.plan local_inside_global.taken_as_global ≡ fault 3 A4 }
@@ -169,14 +168,14 @@ pub fn local_inside_global()
     ensures local { is_global local_inside_global.plan 1 ≡ false }
 {}
 
-/// What was released and is requested again goes to who was queued before.
+/// A resource released and requested again goes to the job queued first.
 pub fn requested_again()
     ensures run { IsRun requested_again.plan requested_again.rows }
     ensures overtakes { verdict requested_again.plan requested_again.overtakes ≡ fault 5 A5 }
 {}
 
-/// The history of a lock that two cores call, each answer as a first-in-first-out lock gives it, and
-/// histories of which one answer is wrong.
+/// The history of a lock that two cores call, each answer as a first-in-first-out lock gives it,
+/// and histories with one wrong answer.
 pub fn lock_history()
     ensures legal { Legal lock_history.history }
     ensures granted_too_soon { ¬ Legal lock_history.granted_too_soon }
@@ -192,7 +191,7 @@ pub fn refused_numbers()
     ensures too_long { new_fault 1 20001 ≡ Some Limit }
 {}
 
-/// Which resources a builder refuses: names are judged before the limit of 32.
+/// Which resources a builder refuses: the name is checked before the limit of 32.
 pub fn refused_resources()
     ensures resource_named { resource_fault (with_tasks []) (codes "a_0") ≡ None }
     ensures longest_name { resource_fault (with_tasks []) (codes "a123456789012345") ≡ None }
@@ -206,7 +205,7 @@ pub fn refused_resources()
     ensures resource_33 { resource_fault full_of_resources (codes "s") ≡ Some Limit }
 {}
 
-/// Which tasks a builder refuses: the end of the task before is judged first, then the name, the core and the
+/// Which tasks a builder refuses: the previous task's end is checked first, then name, core and
 /// limits.
 pub fn refused_tasks()
     ensures first_task { task_fault (with_tasks []) (fresh (codes "g") 1 1 1000000 0) ≡ None }
@@ -221,7 +220,7 @@ pub fn refused_tasks()
     ensures offset_too_long { task_fault (with_tasks []) (fresh (codes "a") 1 20 10 1000001) ≡ Some Limit }
 {}
 
-/// Which releases a builder refuses, and what it refuses where a list has none.
+/// Which releases a builder refuses, and what it refuses when a list has none.
 pub fn refused_releases()
     ensures first_release { release_fault (after_ticks []) 0 ≡ None }
     ensures last_tick { release_fault (after_ticks (3 ∷ [])) 1000000 ≡ None }
@@ -240,7 +239,7 @@ pub fn refused_releases()
     ensures next_before_release { task_fault (after_ticks []) (fresh (codes "B") 2 0 0 0) ≡ Some Releases }
 {}
 
-/// Which steps a builder refuses: the resource is judged first, then how the task nests, then the limits.
+/// Which steps a builder refuses: the resource is checked first, then the nesting, then the limits.
 pub fn refused_steps()
     ensures locked { op_fault (after (works 4095)) (Lock (record { 0 = 1 })) ≡ None }
     ensures undeclared { op_fault (after (works 4096)) (Lock (record { 0 = 2 })) ≡ Some Undeclared }
@@ -255,7 +254,7 @@ pub fn refused_steps()
     ensures run_too_long { op_fault (after (works 1)) (Run 4096) ≡ Some Limit }
 {}
 
-/// Which plans a builder refuses in the end.
+/// Which plans a builder refuses at the end.
 pub fn refused_plans()
     ensures finished { finish_fault nested_local ≡ None }
     ensures nested_global { finish_fault nested ≡ Some NestedGlobal }

@@ -1,4 +1,4 @@
--- The resources of the tests, held one within the other.
+-- The resources of the tests, nested.
 use Rattle.std.specs.Prelude.{◌∷◌}
 use Rattle.msrp_plan.specs.Common.{ℕ, zero, suc, List, []}
 

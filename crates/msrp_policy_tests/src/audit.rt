@@ -1,4 +1,4 @@
-//! An auditor that is fed row by row: the handover of a global resource between two cores within one tick.
+//! An auditor fed row by row: the handover of a global resource between two cores within a tick.
 ghost use Rattle.std.specs.Prelude.{◌≡◌};
 ghost use Rattle.msrp_plan.specs.Common.{Some, true, has_shape};
 ghost use Rattle.msrp_plan.specs.declared.ids.JobId.{JobId as Job};
@@ -44,7 +44,7 @@ pub(crate) fn run(tick: u32, core: u32, job: JobId) -> Row {
     }
 }
 
-// A row on the resource, of the first job of a task.
+// A row of the first job of a task, on the resource.
 pub(crate) fn on(tick: u32, core: u32, kind: Kind, task: u32) -> Row
     requires { (j : Job) (g : Resource) → has_shape kind (Some j) (Some g) ≡ true }
 {
@@ -80,7 +80,7 @@ pub(crate) fn handover() -> [Row; 12] {
     ]
 }
 
-// What an auditor is told, and what it is to answer.
+// The auditor's input, and the expected answer.
 #[derive(Clone, Copy)]
 enum Told {
     Feed(Row, Result<(), Fault>),
@@ -96,7 +96,7 @@ fn answers(auditor: &mut Auditor<'_>, told: Told) -> bool {
     }
 }
 
-// The first that isn't answered so, by its place.
+// The index of the first wrong answer.
 fn first_wrong(auditor: &mut Auditor<'_>, all: &[Told]) -> Option<usize> {
     for (at, told) in all.iter().enumerate() {
         if !answers(auditor, *told) {
@@ -150,7 +150,7 @@ fn a_row_too_many_is_told(rt: HostRuntime) -> Result<(), Fail> {
     Ok(())
 }
 
-// A task on each of eight cores, which want one resource, in the longest run of the most cores.
+// A task on each of eight cores, all with one resource, in the longest run of the most cores.
 pub(crate) const CROWD: &[u8] =
     b"msrp,1\ncores,8\nticks,20000\nresource,g\ntask,a,0,20,8,0\nop,lock,g\nop,run,1\nop,unlock,g\ntask,b,1,20,8,0\nop,lock,g\nop,run,1\nop,unlock,g\ntask,c,2,20,8,0\nop,lock,g\nop,run,1\nop,unlock,g\ntask,d,3,20,8,0\nop,lock,g\nop,run,1\nop,unlock,g\ntask,e,4,20,8,0\nop,lock,g\nop,run,1\nop,unlock,g\ntask,f,5,20,8,0\nop,lock,g\nop,run,1\nop,unlock,g\ntask,g,6,20,8,0\nop,lock,g\nop,run,1\nop,unlock,g\ntask,h,7,20,8,0\nop,lock,g\nop,run,1\nop,unlock,g\n";
 
@@ -161,7 +161,7 @@ pub(crate) fn run_of(alloc: Global, plan: &Plan) -> Result<Trace, Fail> {
     }
 }
 
-// The first row that isn't due of its core, or isn't good, by its place.
+// The index of the first row that isn't expected of its core, or isn't good.
 fn first_undue(auditor: &mut Auditor<'_>, rows: &[Row]) -> Option<usize> {
     for (at, row) in rows.iter().enumerate() {
         if !auditor.is_due(row.core) {
@@ -175,7 +175,7 @@ fn first_undue(auditor: &mut Auditor<'_>, rows: &[Row]) -> Option<usize> {
     None
 }
 
-// Whether any of nine cores is due.
+// Whether any of nine cores has a turn left.
 fn is_more_due(auditor: &Auditor<'_>) -> bool {
     for core in 0..9u32 {
         if auditor.is_due(CoreId(core)) {
@@ -185,7 +185,7 @@ fn is_more_due(auditor: &Auditor<'_>) -> bool {
     false
 }
 
-// The first row of the longest run that isn't due, and whether a core is due after the last.
+// The longest run's first row that isn't expected, and whether a core has a turn left at the end.
 fn undue(alloc: Global) -> Result<(Option<usize>, bool), Fail> {
     let plan = plan_of(alloc, CROWD)?;
     let levels = Levels::of(alloc, &plan)?;
@@ -195,7 +195,7 @@ fn undue(alloc: Global) -> Result<(Option<usize>, bool), Fail> {
     Ok((first, is_more_due(&auditor)))
 }
 
-// A row is due in each turn, also where a job of its core is released, in each twentieth, or starts; and none after the last.
+// A row is expected in each turn, also at a release (in each twentieth) or a start; then none.
 #[test]
 fn each_row_is_due(rt: HostRuntime) -> Result<(), Fail> {
     assert_eq!(rt; undue(rt.alloc())?, (None, false));

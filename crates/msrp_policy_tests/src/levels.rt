@@ -1,4 +1,4 @@
-//! Plans small enough to follow by hand, with what the literature's rules make of them.
+//! Plans small enough to follow by hand, with their levels, ceilings and bounds.
 ghost use Rattle.std.specs.Prelude.{◌≡◌};
 
 use crate::plans::plan_of;
@@ -12,7 +12,7 @@ const R: ResId = ResId(0);
 
 const Q: ResId = ResId(1);
 
-// Each task's level, and how long its outermost sections are.
+// Each task's level, and the bound on its outermost sections.
 fn expect_tasks(rt: &impl Abort, plan: &Plan, levels: &Levels, expected: &[(u32, u32)])
     requires { levels.now ≡ plan.now }
 {
@@ -75,7 +75,7 @@ fn expect_cores(
     }
 }
 
-// Of a resource: whether it is global, its users, and at each core its ceiling, its longest section, and the bound on spinning.
+// A resource: whether it is global, its users, and by core its ceiling, longest section and bound.
 #[derive(Clone, Copy)]
 struct Expected<'a> {
     res: ResId,
@@ -93,7 +93,7 @@ fn expect_resources(rt: &impl Abort, plan: &Plan, levels: &Levels, expected: &[E
     }
 }
 
-// What the levels of a plan are to be: of its tasks, of its cores, and of its resources.
+// The expected levels of a plan: of its tasks, cores and resources.
 fn expect(
     rt: &impl Abort,
     alloc: Global,
@@ -123,7 +123,7 @@ fn two_levels_on_a_local_resource(rt: HostRuntime) -> Result<(), Fail> {
     expect(&rt, rt.alloc(), text, &[(1, 4), (2, 2)], &[2], &[local])
 }
 
-// A job of lo spends one row to join the queue, two to spin at most, and four after the lock.
+// A job of lo takes one row to queue, at most two to spin, and four after the lock.
 #[test]
 fn a_global_resource_on_two_cores(rt: HostRuntime) -> Result<(), Fail> {
     let text =

@@ -1,6 +1,6 @@
-//! Tests of the crates that know the policy: plans, levels, the parts of a core, and an auditor that is fed row by row.
+//! Tests of the policy's crates: plans, levels, the parts of a core, and an auditor fed row by row.
 //!
-//! They stand above those crates, which are proved once, without them.
+//! They are in a crate above those, which are proved once, without them.
 #![tactic(auto)]
 
 #[cfg(test)]

@@ -1,5 +1,5 @@
-//! Verdicts and reports of the least and of the greatest run, and of a trace without a row: no call
-//! gives up on one of them.
+//! Verdicts and reports of the shortest and of the greatest run, and of a trace without a row: no
+//! call fails on one of them.
 
 use crate::audit::{CROWD, PLAN, fault, run_of};
 use crate::plans::plan_of;
@@ -13,7 +13,7 @@ use std::thread::Threads;
 // One core that idles for a tick.
 const LEAST: &[u8] = b"msrp,1\ncores,1\nticks,1\n";
 
-// What is found in a trace, by both ways, where they agree.
+// The verdict of both audits on a trace, if they agree.
 fn verdict(
     rt: &(impl Threads + Sync),
     alloc: Global,
@@ -28,7 +28,7 @@ fn verdict(
     Ok(found)
 }
 
-// How many lines a report has, or the fault that is told in its place.
+// The number of lines of a report, or the fault in its place.
 fn lines(alloc: Global, text: &[u8], trace: &Trace) -> Result<Result<usize, Fault>, Fail> {
     let plan = plan_of(alloc, text)?;
     match report(alloc, &plan, trace) {

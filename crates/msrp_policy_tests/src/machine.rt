@@ -1,4 +1,4 @@
-//! A machine over a port of the tests' own: it does what the port answers, also where no request is ever granted.
+//! A machine over the tests' own port: it obeys the port's answers, even if it is never granted.
 ghost use Rattle.std.specs.Prelude.{◌≡◌, ◌<◌, ◌≤◌, ◌+◌, ◌==◌};
 ghost use Rattle.msrp_plan.specs.Common.{cond, vec_len, vec_capacity, IfOk};
 ghost use Rattle.msrp_core.specs.Ports.{PortModel, Adds, claim_in};
@@ -11,7 +11,7 @@ use msrp_plan::{Call, CoreId, Kind, Memory, Phase, Plan, ResId, Row};
 use std::alloc::Global;
 use std::test::*;
 
-// A port for one core, which lets every request wait behind one other and grants no poll.
+// A port for one core: every request queues after one other, and no poll is granted.
 #[derive(Drop)]
 struct Deaf {
     core: CoreId,

@@ -1,4 +1,4 @@
-//! Plans that are told, what they are read from and written to, and traces.
+//! Tests of plans and their builder, of sources and sinks, and of traces.
 
 mod builder;
 mod bytes;

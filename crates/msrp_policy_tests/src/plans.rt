@@ -1,4 +1,4 @@
-//! Plans by their texts.
+//! Plans from their texts.
 
 use msrp_plan::Plan;
 use msrp_plan::bytes::Source;

@@ -1,4 +1,4 @@
-//! Ready jobs: which one comes first, and which one is taken next.
+//! Ready jobs: which one is the head, and which one is next.
 
 use crate::plans::plan_of;
 use msrp_plan::{CoreId, JobId, Plan, TaskId};
@@ -6,7 +6,7 @@ use msrp_ready::Ready;
 use std::alloc::Global;
 use std::test::Fail;
 
-// What a call is to answer.
+// A call with its expected answer.
 #[derive(Clone, Copy)]
 enum Call {
     // The jobs released by this tick join.
@@ -18,9 +18,9 @@ enum Call {
 
 use Call::{Head, HeadAt, Release, Take};
 
-// The calls are made as they are: a test relies on what it sees, and not on their contracts.
+// The calls without their contracts: a test relies on what it sees.
 
-// Whether the jobs of this tick could join: no later tick was released to before.
+// Whether jobs up to this tick can be released: no later tick was.
 fn release_to(ready: &mut Ready<'_>, tick: u32) -> bool {
     match ready.tick() {
         Some(before) if tick < before => false,
@@ -38,7 +38,7 @@ fn head_at(ready: &Ready<'_>, tick: u32) -> Option<JobId> {
     }
 }
 
-// Whether the call answers what it is to.
+// Whether the call has its expected answer.
 fn answers(ready: &mut Ready<'_>, call: Call) -> bool {
     match call {
         Release(tick) => release_to(ready, tick),
@@ -48,7 +48,7 @@ fn answers(ready: &mut Ready<'_>, call: Call) -> bool {
     }
 }
 
-// The first call that doesn't answer what it is to, by its place.
+// The index of the first call with another answer.
 fn first_wrong(ready: &mut Ready<'_>, calls: &[Call]) -> Option<usize> {
     for (at, call) in calls.iter().enumerate() {
         if !answers(ready, *call) {
@@ -65,8 +65,7 @@ fn job(task: u32, k: u32) -> Option<JobId> {
     })
 }
 
-// The first call that doesn't answer what it is to, how many comparisons were made, and the tick that was released to, of the jobs of
-// a plan's first core.
+// On a plan's first core: the index of the first wrong call, the comparisons, and the tick reached.
 type Found = (Option<usize>, u64, Option<u32>);
 
 fn found(alloc: Global, text: &[u8], calls: &[Call]) -> Result<Found, Fail> {
@@ -78,7 +77,7 @@ fn found(alloc: Global, text: &[u8], calls: &[Call]) -> Result<Found, Fail> {
     Ok((wrong, ready.compared(), ready.tick()))
 }
 
-// The task y is declared first and released last: both absolute deadlines are 10, and the release decides.
+// Task y is declared first and released last: both deadlines are 10, so the release decides.
 #[test]
 fn equal_deadlines_go_by_release(rt: HostRuntime) -> Result<(), Fail> {
     let text = b"msrp,1\ncores,1\nticks,8\ntask,y,0,20,8,2\nop,run,1\ntask,x,0,20,10,0\nop,run,1\n";
@@ -97,7 +96,7 @@ fn equal_deadlines_go_by_release(rt: HostRuntime) -> Result<(), Fail> {
     Ok(())
 }
 
-// The head stays the head, whoever is released behind it.
+// The head stays the head when jobs after it are released.
 #[test]
 fn blocked_head_stays(rt: HostRuntime) -> Result<(), Fail> {
     let text =
@@ -145,8 +144,8 @@ fn listed_jobs_come_at_their_ticks(rt: HostRuntime) -> Result<(), Fail> {
     Ok(())
 }
 
-// A plan of 64 tasks with 128 jobs each. The jobs of each task come before those of all tasks declared before it, so that a
-// job rises far when it joins.
+// A plan of 64 tasks with 128 jobs each. The jobs of each task come before those of all earlier
+// tasks, so a new job rises far.
 fn full(alloc: Global) -> Result<Plan, Fail> {
     let mut text = Vec::from_slice(alloc, b"msrp,1\ncores,1\nticks,8192\n")?;
     for t in 0..64u32 {
@@ -157,7 +156,7 @@ fn full(alloc: Global) -> Result<Plan, Fail> {
     plan_of(alloc, text.as_slice())
 }
 
-// Whether the next heads are the jobs of a task, each seen with no comparison and taken with at most 26.
+// Whether the next heads are a task's jobs, each seen with no comparison, taken with at most 26.
 fn leaves_next(ready: &mut Ready<'_>, task: u32) -> bool {
     let mut good = true;
     for k in 0..128u32 {
@@ -171,7 +170,8 @@ fn leaves_next(ready: &mut Ready<'_>, task: u32) -> bool {
     good
 }
 
-// The first task from the last on whose jobs don't leave in turn, if all joined by few comparisons and none is left behind.
+// The first task, from the last on, whose jobs don't leave in order, if all joined with few
+// comparisons and none is left.
 fn first_astray(ready: &mut Ready<'_>) -> Option<u32> {
     if !answers(ready, Release(8_191)) || ready.compared() > 13 * 8_192 {
         return Some(64);

@@ -1,4 +1,4 @@
-//! Simulations of one plan by each order of the cores, through `simulate` itself.
+//! Simulations of one plan in each order of the cores.
 
 use crate::audit::{PLAN, handover, idle, job, on, run};
 use crate::plans::plan_of;
@@ -16,7 +16,7 @@ fn given(alloc: Global, cores: &[u32]) -> Result<Order, Fail> {
     Ok(Order::Given(list))
 }
 
-// The rows of a simulation by this order, without the lengths of queues; or why there are none.
+// The rows of a simulation in this order, without the queue lengths; or why there are none.
 fn rows_by(alloc: Global, order: &Order) -> Result<Result<Vec<Row>, SimError>, Fail> {
     let plan = plan_of(alloc, PLAN)?;
     let trace = match simulate(alloc, &plan, order) {
@@ -59,7 +59,7 @@ fn falling() -> [Row; 12] {
     ]
 }
 
-// In an odd tick core 1 comes first.
+// In an odd tick core 1 is first.
 fn going_round() -> [Row; 12] {
     [
         on(0, 0, Kind::Take, 0),
@@ -77,7 +77,7 @@ fn going_round() -> [Row; 12] {
     ]
 }
 
-// Core 1 comes first in tick 2, so it polls before the release, and gets the resource a tick later.
+// Core 1 is first in tick 2, so it polls before the release and gets the resource a tick later.
 fn a_tick_later() -> [Row; 12] {
     [
         on(0, 0, Kind::Take, 0),

@@ -1,4 +1,4 @@
-//! Jobs that start, lock and finish on a core, worked by hand.
+//! Jobs that start, lock and finish on a core, with the ceilings found by hand.
 ghost use Rattle.std.specs.Prelude.{◌≡◌, ◌<◌, ◌∷◌};
 ghost use Rattle.msrp_plan.specs.Common.{[], IfOk, IsSome, length, true, Contains, release_tick, jobs_on, is_global, is_before};
 ghost use Rattle.msrp_policy_tests.specs.Nested.{nested};
@@ -12,7 +12,7 @@ use std::process::Abort;
 use std::test::Fail;
 
 const CORE: CoreId = CoreId(0);
-// A resource of one task, one of two tasks of the core, and one that another core uses too.
+// A resource of one task, one of two tasks of the core, and one with a user on another core.
 const OWN: ResId = ResId(0);
 
 const BOTH: ResId = ResId(1);
@@ -30,8 +30,8 @@ fn first_job(task: u32) -> JobId {
 const PLAN: &[u8] =
     b"msrp,1\ncores,2\nticks,40\nresource,own\nresource,both\nresource,shared\ntask,late,0,40,20,0\nop,lock,own\nop,unlock,own\nop,lock,both\nop,unlock,both\nop,lock,shared\nop,unlock,shared\ntask,early,0,40,10,0\nop,lock,both\nop,unlock,both\ntask,other,1,40,10,0\nop,lock,shared\nop,unlock,shared\n";
 
-// A task of the latest deadline, which holds as many resources as a job may, one within the other, and for each of them a task
-// of its own, each of an earlier deadline than the last.
+// A task with the latest deadline holds as many resources as a job may, nested; each is shared with
+// another task of an earlier deadline than the last.
 const DEEP_PLAN: &[u8] =
     b"msrp,1\ncores,1\nticks,40\nresource,a\nresource,b\nresource,c\nresource,d\nresource,e\nresource,f\nresource,g\nresource,h\ntask,deep,0,40,20,0\nop,lock,a\nop,lock,b\nop,lock,c\nop,lock,d\nop,lock,e\nop,lock,f\nop,lock,g\nop,lock,h\nop,unlock,h\nop,unlock,g\nop,unlock,f\nop,unlock,e\nop,unlock,d\nop,unlock,c\nop,unlock,b\nop,unlock,a\ntask,t,0,40,19,0\nop,lock,a\nop,unlock,a\ntask,u,0,40,18,0\nop,lock,b\nop,unlock,b\ntask,v,0,40,17,0\nop,lock,c\nop,unlock,c\ntask,w,0,40,16,0\nop,lock,d\nop,unlock,d\ntask,x,0,40,15,0\nop,lock,e\nop,unlock,e\ntask,y,0,40,14,0\nop,lock,f\nop,unlock,f\ntask,z,0,40,13,0\nop,lock,g\nop,unlock,g\ntask,zz,0,40,12,0\nop,lock,h\nop,unlock,h\n";
 
@@ -48,7 +48,6 @@ fn is_own(plan: &Plan, job: JobId) -> bool
     plan.core_of(job.task).0 == CORE.0
 }
 
-// Whether a job is one of the plan.
 fn has_job(plan: &Plan, job: JobId) -> bool
     ensures task { result ≡ true → job.task.0 < length plan.now.tasks }
     ensures released { result ≡ true → IsSome (release_tick plan.now job) }
@@ -56,14 +55,13 @@ fn has_job(plan: &Plan, job: JobId) -> bool
     job.task.0 < plan.tasks() && job.k < plan.jobs(job.task)
 }
 
-// Whether a job comes before another.
 fn is_first(plan: &Plan, job: JobId, other: JobId) -> bool
     ensures { result ≡ true → is_before plan.now job other ≡ true }
 {
     has_job(plan, job) && has_job(plan, other) && plan.job_key(job).is_before(&plan.job_key(other))
 }
 
-// Whether a resource is one of the plan, and global or not as it should be.
+// Whether a resource is one of the plan, and global or not as expected.
 fn has_resource(plan: &Plan, levels: &Levels, res: ResId, global: bool) -> bool
     requires { levels.now ≡ plan.now }
     ensures declared { result ≡ true → res.0 < length plan.now.resources }
@@ -83,14 +81,14 @@ fn started<'a>(
     requires job { Contains (jobs_on plan.now 0) job }
     ensures { IfOk result (λ stack. stack ≡ record { plan = plan.now; core = 0; started = record { job = job; held = [] } ∷ [] }) }
 {
-    // Read so that the plan is known to be an accepted one, which has a core.
+    // This read proves that the plan is an accepted one, which has a core.
     let _cores = plan.cores();
     let mut stack = CeilingStack::with_room(alloc, plan, levels, CORE)?;
     stack.start(job);
     Ok(stack)
 }
 
-// Starts a job of the core over another one, which holds a resource and comes after it.
+// Starts a job of the core over another, which holds a resource and comes after it.
 fn start_over(rt: &impl Abort, plan: &Plan, stack: &mut CeilingStack, job: JobId, below: JobId)
     requires { stack.old ≡ record { plan = plan.now; core = 0; started = record { job = below; held = 0 ∷ [] } ∷ [] } }
     ensures { stack.new ≡ record { plan = plan.now; core = 0; started = record { job = job; held = [] } ∷ record { job = below; held = 0 ∷ [] } ∷ [] } }
@@ -117,7 +115,7 @@ fn is_new(rt: &impl Abort, alloc: Global, plan: &Plan, levels: &Levels) -> Resul
     Ok(())
 }
 
-// Each lock keeps the ceiling from before, and its unlock puts it back.
+// Each lock saves the ceiling, and its unlock restores it.
 fn nests(rt: &impl Abort, alloc: Global, plan: &Plan, levels: &Levels) -> Result<(), Fail>
     requires { levels.now ≡ plan.now }
 {
@@ -138,7 +136,8 @@ fn nests(rt: &impl Abort, alloc: Global, plan: &Plan, levels: &Levels) -> Result
     Ok(())
 }
 
-// A request of a global resource raises the ceiling to the core's highest level, though only a task of a lower one uses it there.
+// A request of a global resource raises the ceiling to the core's highest level, even if only a
+// lower task there uses it.
 fn requests(rt: &impl Abort, alloc: Global, plan: &Plan, levels: &Levels) -> Result<(), Fail>
     requires { levels.now ≡ plan.now }
 {
@@ -153,7 +152,7 @@ fn requests(rt: &impl Abort, alloc: Global, plan: &Plan, levels: &Levels) -> Res
     Ok(())
 }
 
-// A job that is started while another holds a resource stands on top until it is finished, and leaves the ceiling to the other.
+// A job started while another holds a resource is on top until it ends; the ceiling stays.
 fn stands_on(rt: &impl Abort, alloc: Global, plan: &Plan, levels: &Levels) -> Result<(), Fail>
     requires { levels.now ≡ plan.now }
 {
@@ -169,7 +168,7 @@ fn stands_on(rt: &impl Abort, alloc: Global, plan: &Plan, levels: &Levels) -> Re
     Ok(())
 }
 
-// Locks the first eight resources, one within the other: each raises the ceiling by one.
+// Locks the first eight resources, nested: each raises the ceiling by one.
 fn lock_eight(rt: &impl Abort, plan: &Plan, levels: &Levels, stack: &mut CeilingStack, job: JobId)
     requires levels { levels.now ≡ plan.now }
     requires stack { stack.old ≡ record { plan = plan.now; core = 0; started = record { job = job; held = [] } ∷ [] } }
@@ -182,7 +181,7 @@ fn lock_eight(rt: &impl Abort, plan: &Plan, levels: &Levels, stack: &mut Ceiling
     }
 }
 
-// Unlocks them, the last one first: each gives the ceiling back.
+// Unlocks them, the last one first: each restores the ceiling.
 fn unlock_eight(rt: &impl Abort, plan: &Plan, levels: &Levels, stack: &mut CeilingStack, job: JobId)
     requires levels { levels.now ≡ plan.now }
     requires stack { stack.old ≡ record { plan = plan.now; core = 0; started = record { job = job; held = nested 8 } ∷ [] } }
@@ -217,7 +216,7 @@ enum Case {
     Eight,
 }
 
-// One of these, over a plan.
+// One of these cases, over a plan.
 fn over(rt: &impl Abort, alloc: Global, text: &[u8], case: Case) -> Result<(), Fail> {
     let plan = plan_of(alloc, text)?;
     let levels = Levels::of(alloc, &plan)?;

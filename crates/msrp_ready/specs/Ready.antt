@@ -4,8 +4,8 @@ use Rattle.msrp_plan.specs.Common.{ℕ, List, Bool, false, not, nat_le, Option, 
 use Rattle.msrp_plan.specs.declared.ids.JobId.{JobId}
 use Rattle.msrp_plan.specs.Choice.{first_ready}
 
--- the ready jobs of a core of a plan: the tick up to which jobs are released (none before the first), the jobs that were
--- taken, and how often two keys were compared as they were released and taken
+-- the ready jobs of a core of a plan: the tick up to which jobs are released (none before the
+-- first), the taken jobs, and the number of key comparisons for releasing and taking
 pub record ReadyModel : Type 0 where
   pub plan : PlanModel
   pub core : ℕ
@@ -17,16 +17,16 @@ pub record ReadyModel : Type 0 where
 abbrev pub is_among : List JobId → JobId → Bool
 is_among js j = list_any (same_job j) js
 
--- a release has come by a tick that is not earlier; before the first tick none has
+-- a release is at a tick or before it; before the first tick none is
 abbrev pub has_come : Option ℕ → ℕ → Bool
 has_come None release = false
 has_come (Some t) release = nat_le release t
 
--- how many jobs of the core are released
+-- the number of released jobs of the core
 abbrev pub released : ReadyModel → ℕ
 released ready = count_by (λ j. has_come ready.tick (release ready.plan j)) (jobs_on ready.plan ready.core)
 
--- a job of the core is released by this tick that isn't released yet
+-- a job of the core is still to be released by this tick
 abbrev pub has_release_by : ReadyModel → ℕ → Bool
 has_release_by ready t = list_any (λ j. has_come (Some t) (release ready.plan j) && not (has_come ready.tick (release ready.plan j))) (jobs_on ready.plan ready.core)
 

@@ -1,4 +1,4 @@
-//! The calendar of a core: its jobs in the order of their releases, each beside its release.
+//! The calendar of a core: its jobs in the order of their releases.
 ghost use Rattle.std.specs.Prelude.{◌≡◌, ◌<◌, ◌≤◌, ◌+◌, ◌-◌, ◌*◌, ◌^◌, ◌++◌};
 ghost use Rattle.msrp_plan.specs.Common.{length, map, take, drop, slice_index_or, IfOk, OnOk, All, IsPermutation, IsNonDecreasingBy, jobs_of, jobs_on, IsPlan, most_jobs};
 ghost use Rattle.msrp_ready.specs.Keyed.{entry, entry_keys};
@@ -10,10 +10,9 @@ use crate::keyed::{Entry, KeyedJob};
 use msrp_plan::{CoreId, JobId, Memory, Plan, TaskId};
 use std::alloc::{AllocError, Global};
 
-// The release of no job, past all ticks.
+// The release of no job, after all ticks.
 pub(crate) const NEVER: u64 = 1 << 32;
 
-// Adds the jobs of a task.
 fn push_jobs(jobs: &mut Vec<Entry>, plan: &Plan, task: TaskId) -> Result<(), AllocError>
     requires plan { IsPlan plan.now }
     requires task { task.0 < length plan.now.tasks }
@@ -39,7 +38,7 @@ fn jobs_on(alloc: Global, plan: &Plan, core: CoreId) -> Result<Vec<Entry>, Alloc
     Ok(jobs)
 }
 
-/// The jobs of a core by their releases. It fails only where memory was refused.
+/// The jobs of a core by their releases; [`Memory`] only if memory runs out.
 pub(crate) fn calendar_of(alloc: Global, plan: &Plan, core: CoreId) -> Result<Vec<Entry>, Memory>
     ensures plan { IsPlan plan.now }
     ensures jobs { IfOk result (λ jobs. IsPermutation (map (entry plan.now) (jobs_on plan.now core.0)) jobs.items) }
@@ -50,7 +49,7 @@ pub(crate) fn calendar_of(alloc: Global, plan: &Plan, core: CoreId) -> Result<Ve
     Ok(jobs)
 }
 
-/// The place of the first job of a calendar, from a place on, that isn't released by a tick.
+/// The index of the first job, from an index on, that isn't released by a tick.
 pub(crate) fn released_to(calendar: &[Entry], from: usize, tick: u32) -> usize
     requires { from ≤ length calendar.now }
     ensures from { from ≤ result }
@@ -65,7 +64,7 @@ pub(crate) fn released_to(calendar: &[Entry], from: usize, tick: u32) -> usize
     next
 }
 
-/// The release of the job at a place of a calendar, past all ticks where none stands there.
+/// The release of the job at an index, or after all ticks if there is none.
 pub(crate) fn release_at(calendar: &[Entry], place: usize) -> u64
     ensures { IsComing calendar.now place result }
 {
@@ -76,8 +75,8 @@ pub(crate) fn release_at(calendar: &[Entry], place: usize) -> u64
     }
 }
 
-/// Moves the jobs of a calendar from a place on, where the next release stands, that are released by a tick into the heap. It answers the place of
-/// the first that isn't, and its release.
+/// Moves the jobs released by a tick from the calendar, from an index on, into the heap. Returns
+/// the index and the release of the first that stays.
 #[inline(always)]
 pub(crate) fn release(
     plan: &Plan,
@@ -114,7 +113,7 @@ pub(crate) fn release(
     }
 }
 
-// Releases the jobs of a calendar that a tick releases. Apart from the code of the ticks in which nothing is released, which are most.
+// Releases the jobs of one tick, apart from the code for the usual tick without a release.
 #[inline(never)]
 fn release_some(plan: &Plan, calendar: &[Entry], from: usize, tick: u32, heap: &mut Heap) -> usize
     requires from { from ≤ length calendar.now }

@@ -1,4 +1,4 @@
-//! Jobs beside their releases, and by their keys.
+//! Jobs with their releases, and by their keys.
 ghost use Rattle.msrp_plan.specs.Common.{[], length, IfSome, IfNone, All, Contains, IsPlan};
 ghost use Rattle.std.specs.Prelude.{◌≡◌, ◌<◌, ◌++◌, option_to_list};
 ghost use Rattle.std.specs.BinaryHeap.{IsUpperBound};
@@ -9,8 +9,8 @@ use msrp_plan::{JobId, Plan, TaskId};
 use std::marker::Model;
 use std::mem::size_of;
 
-/// An entry of a calendar: a job, and the tick in which it is released. A calendar is long, so it has no keys, and its numbers, which
-/// the limits of a plan keep small, have two bytes each.
+/// An entry of a calendar: a job and its release tick. A calendar is long, so an entry has no key,
+/// and only two bytes for each number, which a plan's limits allow.
 #[derive(Clone, Copy)]
 pub(crate) struct Entry {
     pub(crate) release: u16,
@@ -25,7 +25,7 @@ impl Entry {
     ghost use Rattle.msrp_plan.specs.Plan.{release_tick};
     ghost use Rattle.msrp_ready.specs.Keyed.{entry};
 
-    /// A job of a plan beside its release.
+    /// A job of a plan with its release.
     pub(crate) fn of(plan: &Plan, job: JobId) -> Entry
         requires plan { IsPlan plan.now }
         requires task { job.task.0 < length plan.now.tasks }
@@ -41,8 +41,8 @@ impl Entry {
     }
 }
 
-/// A job by its key, in which it stands. The key is one number, so that two keys compare in one step: the absolute deadline is its
-/// greatest part, and then come the release, the task and the job's number, for each of which there is room within a plan's limits.
+/// A job as its key, packed into one number, so that keys compare in one step: absolute deadline,
+/// then release, task and job number, each with room for a plan's limits.
 #[derive(Clone, Copy)]
 pub(crate) struct KeyedJob {
     number: u64,
@@ -50,7 +50,7 @@ pub(crate) struct KeyedJob {
 
 const _: () = prove!(size_of::<KeyedJob>() == 8);
 
-// What one tick of the deadline, one of the release and one task count for in the number.
+// The weights of one tick of the deadline, one of the release, and one task in the number.
 const DEADLINE: u64 = 1 << 40;
 
 const RELEASE: u64 = 1 << 24;
@@ -76,7 +76,7 @@ impl KeyedJob {
     ghost use Rattle.msrp_plan.specs.Choice.{key_cmp};
     ghost use Rattle.msrp_ready.specs.Keyed.{job_of, entry_key};
 
-    /// The job of an entry by its key.
+    /// The key of an entry's job.
     pub(crate) fn of(plan: &Plan, entry: Entry) -> KeyedJob
         requires plan { IsPlan plan.now }
         requires task { entry.task < length plan.now.tasks }
@@ -91,7 +91,7 @@ impl KeyedJob {
         }
     }
 
-    /// The job itself.
+    /// The job of the key.
     pub(crate) fn job(&self) -> JobId
         ensures { result ≡ job_of self.now }
     {
@@ -110,7 +110,7 @@ impl KeyedJob {
     }
 }
 
-// The one of a job and another that comes first; the job itself, if there is no other.
+// The first of a job and another; the job itself if there is no other.
 fn earlier(job: KeyedJob, other: Option<KeyedJob>) -> KeyedJob
     ensures { result ≡ earlier_of job other }
 {
@@ -121,7 +121,7 @@ fn earlier(job: KeyedJob, other: Option<KeyedJob>) -> KeyedJob
     }
 }
 
-/// The job that no other comes before, of those of some entries and one more, if there is one.
+/// The first of some entries' jobs and one more, if there is any.
 pub(crate) fn first_of(plan: &Plan, one: Option<KeyedJob>, entries: &[Entry]) -> Option<KeyedJob>
     requires plan { IsPlan plan.now }
     requires tasks { All (λ entry. entry.task < length plan.now.tasks) entries.now }

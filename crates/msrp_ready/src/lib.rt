@@ -1,7 +1,7 @@
-//! The ready jobs of a core: those that are released and not started, of which the one with the least key comes first.
+//! The ready jobs of a core: those released and not started, the one with the least key first.
 //!
-//! [`Ready`] has the core's jobs in a calendar by their releases, and those that are released and not yet taken in a binary heap by
-//! their keys. Both are made at once, so that nothing later takes memory.
+//! [`Ready`] has the core's jobs in a calendar by release, and the released ones that aren't taken
+//! yet in a binary heap by key. Both get all their memory at once.
 #![tactic(auto)]
 
 mod calendar;

@@ -1,4 +1,4 @@
-//! The ready jobs of a core.
+//! The ready jobs of a core, with two calls: release up to a tick, and take the head.
 ghost use Rattle.std.specs.Prelude.{◌≡◌, ◌<◌, ◌≤◌, ◌+◌, ◌-◌, ◌*◌, ◌||◌};
 ghost use Rattle.msrp_plan.specs.Common.{[], ℕ, None, Some, true, false, IfOk, IfNone, IfSome, ForSome, is_job};
 ghost use Rattle.msrp_plan.specs.declared.ids.JobId.{JobId as Job};
@@ -11,13 +11,12 @@ use msrp_plan::{CoreId, JobId, Memory, Plan};
 use std::alloc::Global;
 use std::marker::Model;
 
-/// The jobs of a core that are released and not taken, of which the one with the least key is the head.
+/// The released, not yet taken jobs of a core; the one with the least key is the head.
 ///
-/// A new one has released nothing. [`release_to`](Ready::release_to) releases the jobs up to a tick, and
-/// [`take_head`](Ready::take_head) takes the head, which its first turn starts. A head whose preemption level doesn't pass the
-/// ceiling holds up the jobs behind it (Baker 1991, the Stack Resource Policy), so nobody asks for another than the head.
-///
-/// Jobs wait for their release in a list by releases, and for their start in a binary heap by keys.
+/// A new one has released nothing. [`release_to`](Ready::release_to) releases the jobs up to a
+/// tick, and [`take_head`](Ready::take_head) takes the head, which starts in its first turn. Jobs
+/// after a head that the ceiling blocks must wait too (Baker 1991, the Stack Resource Policy), so
+/// only the head is ever asked for.
 #[derive(Drop)]
 pub struct Ready<'a> {
     plan: &'a Plan,
@@ -25,7 +24,7 @@ pub struct Ready<'a> {
     tick: Option<u32>,
     calendar: Vec<Entry>,
     next: usize,
-    // The next release, kept so that a turn without one doesn't look into the calendar. Past all ticks where none is left.
+    // The next release, after all ticks if none is left: most turns need no look at the calendar.
     coming: u64,
     heap: Heap,
 }
@@ -43,8 +42,8 @@ impl<'a> Model for Ready<'a> {
 }
 
 impl<'a> Ready<'a> {
-    /// The ready jobs of a core before anything is released. All memory that they ever need is taken here: it is [`Memory`] only
-    /// where that was refused.
+    /// The ready jobs of a core before the first release, with all the memory that they will ever
+    /// need; [`Memory`] only if it runs out.
     pub fn with_room(alloc: Global, plan: &'a Plan, core: CoreId) -> Result<Ready<'a>, Memory>
         ensures { IfOk result (λ ready. ready ≡ record { plan = plan.now; core = core.0; tick = None; taken = []; compared = 0 }) }
     {
@@ -70,7 +69,7 @@ impl<'a> Ready<'a> {
         ensures at_most { self.new.compared ≤ self.old.compared + 13 * (released self.new - released self.old) }
         ensures at_least { self.old.compared ≤ self.new.compared }
 
-        // Each job that finds another ready is compared.
+        // Each job released while another is ready is compared.
         ensures counted { released self.new ≤ released self.old + 1 + (self.new.compared - self.old.compared) }
     {
         let (next, coming) = release(
@@ -86,7 +85,7 @@ impl<'a> Ready<'a> {
         self.tick = Some(tick);
     }
 
-    /// Whether a job of the core is released by this tick that isn't released yet. It compares no keys.
+    /// Whether a job of the core is still to be released by this tick. Compares no keys.
     #[inline(always)]
     pub fn has_release_by(&self, tick: u32) -> bool
         ensures { result ≡ has_release_by self.now tick }
@@ -94,7 +93,7 @@ impl<'a> Ready<'a> {
         self.coming <= u64::from(tick)
     }
 
-    /// The tick in which the next job of the core is released, if one is left. It compares no keys.
+    /// The tick of the core's next release, if one is left. Compares no keys.
     #[inline(always)]
     pub fn next_release(&self) -> Option<u64>
         ensures none { IfNone result ((tick : ℕ) → has_release_by self.now tick ≡ false) }
@@ -108,14 +107,14 @@ impl<'a> Ready<'a> {
         }
     }
 
-    /// The tick up to which jobs are released, none before the first.
+    /// The tick up to which jobs are released, or none before the first.
     pub fn tick(&self) -> Option<u32>
         ensures { result ≡ self.now.tick }
     {
         self.tick
     }
 
-    /// The ready job with the least key. It compares no keys.
+    /// The ready job with the least key. Compares no keys.
     pub fn head(&self) -> Option<JobId>
         ensures { result ≡ head self.now }
     {
@@ -123,7 +122,7 @@ impl<'a> Ready<'a> {
         Some(first.job())
     }
 
-    // The head as a release to a tick would leave it, apart from the code of the ticks in which nothing is released.
+    // The head after a release up to a tick. Kept apart from the code for ticks without a release.
     #[inline(never)]
     fn head_of_released(&self, tick: u32) -> Option<JobId>
         requires { ForSome self.now.tick (λ before. before ≤ tick) }
@@ -135,8 +134,8 @@ impl<'a> Ready<'a> {
         Some(first.job())
     }
 
-    /// The head as a release to a tick would leave it, which is no earlier than the one before. It releases nothing, and
-    /// counts no comparison.
+    /// The head that a release up to a tick, not before the last one, would leave. Releases
+    /// nothing, counts no comparison.
     #[inline(always)]
     pub fn head_at(&self, tick: u32) -> Option<JobId>
         requires { ForSome self.now.tick (λ before. before ≤ tick) }
@@ -149,7 +148,7 @@ impl<'a> Ready<'a> {
         }
     }
 
-    /// Takes the head, which is ready no more. It takes no memory.
+    /// Takes the head: it isn't ready any more. Needs no memory.
     pub fn take_head(&mut self) -> Option<JobId>
         ensures head { result ≡ head self.old }
         ensures rest { self.new ≡ record self.old { taken = self.new.taken; compared = self.new.compared } }
@@ -161,7 +160,7 @@ impl<'a> Ready<'a> {
         Some(first.job())
     }
 
-    /// How often two keys were compared since this was made, but for a look ahead.
+    /// The number of key comparisons so far, except those of `head_at`.
     pub fn compared(&self) -> u64
         ensures { result ≡ self.now.compared }
     {

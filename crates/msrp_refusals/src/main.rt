@@ -1,4 +1,4 @@
-//! Single calls where memory or a thread may be refused, for the sweep of refused calls: each word of the command line is one.
+//! Single calls for the test that refuses memory or threads one by one; each argument names one.
 #![tactic(auto)]
 
 mod steps;
@@ -9,7 +9,7 @@ use std::process::ExitCode;
 use std::sync::Wait;
 use std::thread::Threads;
 
-// Makes the calls that the words name, in turn.
+// Makes the calls that the arguments name, in turn.
 fn called<T: Threads + Wait + Sync>(rt: &HostRuntime, threads: &T) -> Result<(), &'static str> {
     let words = words_of(rt).map_err(|_| "memory")?;
     for word in words.iter().skip(1) {

@@ -1,4 +1,4 @@
-//! The worked steps of two cores on the word of one resource: a request each, polls, and a release each.
+//! The worked steps of two cores on one resource's word: each requests, polls and releases.
 ghost use Rattle.std.specs.Prelude.{◌≡◌, ◌<◌};
 ghost use Rattle.msrp_plan.specs.Common.{IfSome, OnOk};
 ghost use Rattle.msrp_board.specs.Seats.{IsCoreSeatOn};
@@ -10,7 +10,8 @@ use std::io::Print;
 
 const RES: ResId = ResId(0);
 
-// The cores in the order of their turns, and whether the core makes a step in it. In tick 2 core 1 polls before core 0 releases.
+// The cores in the order of their turns, and whether each makes a step. In tick 2 core 1 polls
+// before core 0 releases.
 const TURNS: [(u32, bool); 12] = [
     (0, true),
     (1, true),
@@ -26,7 +27,7 @@ const TURNS: [(u32, bool); 12] = [
     (1, true),
 ];
 
-// The step that is due after the core's last one, and its answer: a request, a poll or a release.
+// The core's next step and its answer: a request, a poll or a release.
 fn step(rt: &impl Print, board: &Board, seat: &mut BoardSeat) -> Result<(), &'static str>
     requires seat { IsCoreSeatOn board.now seat.old }
     requires res { 0 < board.now.size.resources }
@@ -78,7 +79,7 @@ fn has_arrived(board: &Board, seat: &mut BoardSeat) -> bool
     true
 }
 
-// A turn of the core: it is let in, makes its step or none, and arrives.
+// A turn of the core: it is let in, makes its step, if any, and arrives.
 fn turn(
     rt: &impl Print,
     board: &Board,
@@ -118,7 +119,6 @@ fn parted(board: &Board, seat: BoardSeat, core: CoreId) -> Option<(BoardSeat, Bo
     Some(board.split(seat, core))
 }
 
-// All turns, in their order.
 fn all_turns(
     rt: &impl Print,
     board: &Board,
@@ -139,7 +139,7 @@ fn all_turns(
     Ok(())
 }
 
-/// Prints the answers of all steps on a new board, or that it was refused memory.
+/// Prints the answers of all steps on a new board, or that memory ran out.
 pub fn worked(rt: &impl Print, alloc: Global) -> Result<(), &'static str> {
     let (board, seat) = match Board::new(alloc, 2, 1, 6) {
         Ok(made) => made,

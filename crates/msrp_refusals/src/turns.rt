@@ -1,4 +1,4 @@
-//! A run of a plan on two threads, and how many turns were made: all of them, or where it is refused all or none.
+//! A run of a plan on two threads, and its number of turns: all, or after a refusal all or none.
 
 use msrp_board::{Board, BoardSeat};
 use msrp_core::Machine;
@@ -33,7 +33,7 @@ impl Stage for Counting {
     }
 }
 
-/// Prints what the run came to, and the count.
+/// Prints the run's result, and the count.
 pub fn counted<T: Threads + Wait + Sync>(
     rt: &impl Print,
     threads: &T,

@@ -1,4 +1,4 @@
--- Plans small enough to follow by hand, each with a run of it. `src/worked.rt` says which report each run has.
+-- Plans small enough to follow by hand, each with a run; `src/worked.rt` has their reports.
 pub mod ThreeWaits
 pub mod ThreeBlockedJobs
 pub mod TwoSpinningJobs

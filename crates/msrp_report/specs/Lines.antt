@@ -1,5 +1,5 @@
--- What a report says of each task: counts over the rows of a trace, and beside them the bounds that the plan gives. (The
--- survey of Davis and Burns 2011 has the words: response time, spin delay, blocking.)
+-- A report on each task: counts over the rows of a trace, and the plan's bounds. (The survey of
+-- Davis and Burns 2011 has the terms: response time, spin delay, blocking.)
 use Rattle.msrp_plan.specs.Common.{ℕ, List, [], Bool, nat_lt, nat_le, fold, map, max, count_by, length, sum_by, range_with_len, PlanModel, TaskModel, task_at, key, release, is_queue, jobs_of, is_row_of, is_finished, uses, is_global, greatest, resources, is_grant, is_spin_of, spin_bound, blocked_bound, blocked}
 use Rattle.msrp_plan.specs.declared.ids.JobId.{JobId}
 use Rattle.msrp_plan.specs.declared.rows.Row.{Row}
@@ -7,48 +7,47 @@ use Rattle.std.specs.Prelude.{◌∷◌, ◌&&◌, ◌+◌, ◌-◌, if◌then�
 use Rattle.msrp_report.specs.declared.lines.Line.{Line}
 
 -- ---- response
--- the tick of the job's last row, 0 where it has none
+-- the tick of the job's last row, 0 if it has none
 abbrev pub last_tick : JobId → List Row → ℕ
 last_tick j rows = fold (λ _ r. r.tick) 0 (filter (is_row_of j) rows)
 
--- the absolute deadline of the job: by then it would have to be finished
+-- the absolute deadline of the job: it should be finished by then
 abbrev pub absolute_deadline : PlanModel → JobId → ℕ
 absolute_deadline plan j = (key plan j).deadline
 
--- from the job's release to the end of its last action; 0 where it isn't finished
+-- from the job's release to the end of its last action; 0 if it isn't finished
 abbrev pub response : PlanModel → List Row → JobId → ℕ
 response plan rows j = if is_finished plan rows j then (last_tick j rows + 1) - release plan j else 0
 
--- the job finished after its absolute deadline; or it isn't finished, and its absolute deadline isn't after the last tick
+-- the job finished after its absolute deadline; or it didn't, and that isn't after the last tick
 abbrev pub is_late : PlanModel → List Row → JobId → Bool
 is_late plan rows j = if is_finished plan rows j then nat_lt (absolute_deadline plan j) (last_tick j rows + 1) else nat_le (absolute_deadline plan j) plan.ticks
 
 -- ---- spinning
--- the row in which the job joins a queue, and the one in which it is granted what it waits for
+-- the row in which the job joins a queue, and the one in which its wait is granted
 abbrev pub is_queue_of : JobId → Row → Bool
 is_queue_of j r = is_row_of j r && is_queue r.kind
 
 abbrev pub is_granted : JobId → Row → Bool
 is_granted j r = is_row_of j r && is_grant r.kind
 
--- how often the job spins
+-- the number of the job's spins
 abbrev pub spins : List Row → JobId → ℕ
 spins rows j = count_by (is_spin_of j) rows
 
--- how often it spins up to its next grant, or to the end
+-- its spins up to its next grant, or to the end
 abbrev pub spins_to_grant : JobId → List Row → ℕ
 spins_to_grant j [] = 0
 spins_to_grant j (r ∷ rows) = if is_granted j r then 0 else (if is_spin_of j r then 1 else 0) + spins_to_grant j rows
 
--- how often it spins in one wait, from the row in which it joins the queue to its grant or to the end, at most; 0 where
--- it never waits
+-- its most spins in one wait, from joining the queue to its grant or the end; 0 if it never waits
 abbrev pub longest_wait : JobId → List Row → ℕ
 longest_wait j [] = 0
 longest_wait j (r ∷ rows) = max (if is_queue_of j r then spins_to_grant j rows else 0) (longest_wait j rows)
 
 -- ---- bounds
--- how often a job of the task spins in one wait, at most: the greatest bound of the global resources that it locks; 0
--- where it locks none
+-- the most spins of a job of the task in one wait: the greatest bound of the global resources that
+-- it locks; 0 if it locks none
 abbrev pub task_spin_bound : PlanModel → TaskModel → ℕ
 task_spin_bound plan task = greatest (map (λ g. spin_bound plan g task.core) (filter (λ g. uses g task && is_global plan g) (resources plan)))
 

@@ -4,7 +4,7 @@ use Rattle.msrp_plan.specs.Common.{ℕ, List, [], codes, decimal, length, slice_
 use Rattle.msrp_text.specs.PlanText.{record_text}
 use Rattle.msrp_report.specs.declared.lines.Line.{Line}
 
--- what stands for a line that a report lacks
+-- used in place of a line that a report lacks
 abbrev pub no_line : Line
 no_line = record { jobs = 0; finished = 0; late = 0; worst_response = 0; spin = 0; worst_spin = 0; blocked = 0; worst_blocked = 0; spin_bound = 0; blocked_bound = 0 }
 
@@ -17,6 +17,6 @@ line_record plan t l =
 abbrev pub lines_text : PlanModel → List Line → ℕ → List ℕ
 lines_text plan lines n = flat_map (λ t. record_text (line_record plan t (slice_index_or lines t no_line))) (range_with_len 0 n)
 
--- the version, and then each task
+-- the version, then each task
 unfoldable pub report_text : PlanModel → List Line → List ℕ
 report_text plan lines = record_text (codes "msrp-report" ∷ codes "2" ∷ []) ++ lines_text plan lines (length plan.tasks)

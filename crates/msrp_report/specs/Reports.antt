@@ -1,11 +1,11 @@
--- A report while the rows come.
+-- A report while rows arrive.
 use Rattle.std.specs.Prelude.{◌≡◌, ◌≤◌, ◌+◌, ◌++◌, ◌∷◌}
 use Rattle.msrp_plan.specs.Common.{ℕ, List, None, length, vec_capacity, [], fault_in, IsPlan}
 use Rattle.msrp_plan.specs.declared.rows.Row.{Row}
 use Rattle.msrp_report.specs.Inside.Tallies.{HasTallied}
 use Rattle.msrp_report.specs.declared.counter.Counter.{Counter}
 
--- these rows were counted, which have no fault: what they tell of each job is kept
+-- these rows were counted, and have no fault: the counts of each job are theirs
 pub record HasCounted (c : Counter) (rows : List Row) : Type 0 where
   pub accepted : IsPlan c.plan.now
   pub levels : c.levels.now ≡ c.plan.now
@@ -13,18 +13,18 @@ pub record HasCounted (c : Counter) (rows : List Row) : Type 0 where
   pub lines : c.lines.items ≡ []
   pub room : length c.plan.now.tasks ≤ vec_capacity c.lines
 
--- some rows were
+-- some rows were counted
 abbrev pub SomeCounted : Counter → Type 0
 SomeCounted c = (rows : List Row) × HasCounted c rows
 
--- some rows were, and with this one more they have no fault
+-- some rows were counted, and with this one more they have no fault
 abbrev pub MayCount : Counter → Row → Type 0
 MayCount c r = (rows : List Row) × HasCounted c rows × (fault_in c.plan.now (rows ++ r ∷ []) ≡ None)
 
--- and such a row may be one of that tick
+-- such a row may be one of that tick
 abbrev pub MayBegin : Counter → ℕ → Type 0
 MayBegin c t = (r : Row) × MayCount c r × (r.tick ≡ t)
 
--- of all ticks that have begun it is the last
+-- it is the last tick that has begun
 abbrev pub HasBegun : Counter → ℕ → Type 0
 HasBegun c t = c.tallies.begun ≡ t + 1

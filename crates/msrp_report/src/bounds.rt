@@ -1,4 +1,4 @@
-//! The bounds of one task, as the plan gives them.
+//! The bounds of one task: the most spins in one wait, and the most rows that block a job.
 ghost use Rattle.std.specs.Prelude.{◌≡◌, ◌<◌, ◌&&◌, ◌==◌};
 ghost use Rattle.msrp_plan.specs.Common.{cond, nat_lt, length, list_any, task_at, uses, is_global, out, spin_bound, blocked_bound, IsPlan};
 ghost use Rattle.msrp_report.specs.Lines.{task_spin_bound};
@@ -6,14 +6,12 @@ ghost use Rattle.msrp_report.specs.Lines.{task_spin_bound};
 use msrp_levels::Levels;
 use msrp_plan::{CoreId, Plan, ResId, TaskId};
 
-// Whether the task is one of these.
 fn is_among(users: &[TaskId], task: TaskId) -> bool
     ensures { result ≡ list_any (λ u. u.0 == task.0) users.now }
 {
     users.iter().any(|user| *user == task)
 }
 
-// Whether a task locks a resource.
 fn locks(levels: &Levels<'_>, task: TaskId, res: ResId) -> bool
     requires task { task.0 < length levels.now.tasks }
     requires res { res.0 < length levels.now.resources }
@@ -22,8 +20,7 @@ fn locks(levels: &Levels<'_>, task: TaskId, res: ResId) -> bool
     is_among(levels.users(res), task)
 }
 
-// How often a job of a task of the core spins in one wait for a resource, at most; 0 where the task locks no such
-// global resource.
+// The most spins of a task's job in one wait for a resource; 0 if it has no such global lock.
 fn wait_of(levels: &Levels<'_>, task: TaskId, core: CoreId, res: ResId) -> u32
     requires task { task.0 < length levels.now.tasks }
     requires core { core.0 < levels.now.cores }
@@ -37,7 +34,7 @@ fn wait_of(levels: &Levels<'_>, task: TaskId, core: CoreId, res: ResId) -> u32
     }
 }
 
-/// How often a job of a task spins in one wait, at most.
+/// The most spins of a task's job in one wait.
 pub(crate) fn spin_bound_of(plan: &Plan, levels: &Levels<'_>, task: TaskId) -> u32
     requires plan { IsPlan plan.now }
     requires levels { levels.now ≡ plan.now }
@@ -52,8 +49,8 @@ pub(crate) fn spin_bound_of(plan: &Plan, levels: &Levels<'_>, task: TaskId) -> u
     bound
 }
 
-// How many rows of a job of the other task block a job of a task, at most; 0 where it isn't of the core, or its relative
-// deadline isn't longer.
+// The most rows of a job of the other task that block a job of the task; 0 if the other isn't of
+// its core, or its relative deadline isn't longer.
 fn section_of(plan: &Plan, levels: &Levels<'_>, task: TaskId, other: TaskId) -> u32
     requires levels { levels.now ≡ plan.now }
     requires task { task.0 < length plan.now.tasks }
@@ -67,7 +64,7 @@ fn section_of(plan: &Plan, levels: &Levels<'_>, task: TaskId, other: TaskId) -> 
     }
 }
 
-/// How many rows block a job of a task, at most.
+/// The most rows that block a job of a task.
 pub(crate) fn blocked_bound_of(plan: &Plan, levels: &Levels<'_>, task: TaskId) -> u32
     requires plan { IsPlan plan.now }
     requires levels { levels.now ≡ plan.now }

@@ -1,4 +1,4 @@
-//! What the tasks meet in a legal run, counted row by row.
+//! The report of a legal run, counted row by row as the rows arrive.
 
 ghost use Rattle.std.specs.Prelude.{◌≡◌, ◌≤◌, ◌++◌, ◌∷◌};
 ghost use Rattle.msrp_plan.specs.Common.{[], List, IfOk, None, length, All, fault_in};
@@ -12,8 +12,8 @@ use msrp_levels::Levels;
 use msrp_plan::{Memory, Plan, Row, TaskId};
 use std::alloc::Global;
 
-/// Counts what each task meets in the rows of a trace as they come. It judges no row: whoever calls it has an `Auditor`, and counts
-/// only what that finds good. No row is kept.
+/// Counts, for each task, what happened in the rows so far. It doesn't judge rows: its caller has
+/// an `Auditor`, and counts only rows that this accepts. No row is stored.
 #[derive(Drop)]
 pub struct Counter<'a> {
     plan: &'a Plan,
@@ -25,8 +25,8 @@ pub struct Counter<'a> {
 impl<'a> Counter<'a> {
     ghost use Rattle.msrp_report.specs.Reports.{HasBegun, HasCounted, MayBegin, MayCount, SomeCounted};
 
-    /// Before the first row. All memory that it ever needs is taken here: it is [`Memory`] only where that was refused.
-    /// The levels are those of the plan.
+    /// A counter before the first row, with all the memory that it will ever need; [`Memory`] only
+    /// if memory runs out. The levels are the plan's.
     pub fn with_room(
         alloc: Global,
         plan: &'a Plan,
@@ -44,7 +44,7 @@ impl<'a> Counter<'a> {
         })
     }
 
-    /// The next row, with which the rows have no fault. It takes no memory.
+    /// Counts the next row of a legal start. Needs no memory.
     #[inline(always)]
     pub fn count(&mut self, row: Row)
         requires { MayCount self.old row }
@@ -55,7 +55,7 @@ impl<'a> Counter<'a> {
         self.count_begun(row);
     }
 
-    /// Begins the tick of the next row, if it hasn't begun, with the releases of its jobs. It takes no memory.
+    /// Begins the tick of the next row, unless it has begun, with its releases. Allocates nothing.
     #[inline(always)]
     pub fn begin_tick(&mut self, tick: u32)
         requires { MayBegin self.old tick }
@@ -66,8 +66,9 @@ impl<'a> Counter<'a> {
         self.tallies.reach(self.plan, tick);
     }
 
-    /// The next row, with which the rows have no fault, of the tick that has begun last: for a caller that begins a tick once for all its rows, where
-    /// [`count`](Counter::count) asks for it with each. It takes no memory.
+    /// Counts the next row of a legal start, of the tick begun last: for a caller that begins a
+    /// tick once for all its rows, where [`count`](Counter::count) tries with each. Allocates
+    /// nothing.
     #[inline(always)]
     pub fn count_begun(&mut self, row: Row)
         requires row { MayCount self.old row }
@@ -82,11 +83,11 @@ impl<'a> Counter<'a> {
     /// The report of the rows.
     pub fn end(self) -> Report
         requires { SomeCounted self }
-        // Each number is its count over the rows, or the bound that the plan gives.
+        // Each number is its count over the rows, or the plan's bound.
         ensures lines { (rows : List TraceRow) → HasCounted self.entry rows → result.lines.items ≡ lines_of self.entry.plan.now rows }
         // A line for each task.
         ensures tasks { length result.lines.items ≡ length self.entry.plan.now.tasks }
-        // What was counted keeps the bounds.
+        // The counts are within the bounds.
         ensures spinning { All (λ line. line.worst_spin ≤ line.spin_bound) result.lines.items }
         ensures blocking { All (λ line. line.worst_blocked ≤ line.blocked_bound) result.lines.items }
     {

@@ -1,11 +1,11 @@
-//! What the rows tell of one job, row by row.
+//! One job's counts, updated by each of its rows.
 ghost use Rattle.std.specs.Prelude.{◌≡◌, ◌<◌, ◌≤◌, ◌+◌, ◌^◌};
 ghost use Rattle.msrp_plan.specs.Common.{unwrap_or};
 ghost use Rattle.msrp_report.specs.Inside.Counts.{CanCount, counted_as, spun, HasRoom};
 
 use msrp_plan::Kind;
 
-/// What the rows so far tell of one job.
+/// One job's counts over the rows so far.
 #[derive(Clone, Copy)]
 pub(crate) struct JobCount {
     pub(crate) rows: u32,
@@ -14,7 +14,7 @@ pub(crate) struct JobCount {
     /// The tick of its last row.
     pub(crate) last_tick: u32,
     pub(crate) spins: u32,
-    /// How often it has spun since it joined a queue in which it waits.
+    /// Its spins since it joined the queue in which it waits.
     pub(crate) wait: Option<u32>,
     /// The most spins in one wait.
     pub(crate) longest_wait: u32,
@@ -31,7 +31,7 @@ impl JobCount {
         longest_wait: 0,
     };
 
-    // One spin more.
+    // Counts a spin.
     #[inline(always)]
     fn spin(&mut self)
         requires spins { self.old.spins + 1 < 2 ^ 32 }
@@ -46,8 +46,8 @@ impl JobCount {
         }
     }
 
-    /// One row of the job more, of that tick and kind. Only what the row changes is written. Most rows do a unit: they are found without a jump
-    /// by a table.
+    /// Counts a row of the job, of this tick and kind. Writes only what changes. Most rows do a
+    /// unit; a table finds these without a branch.
     #[inline(always)]
     pub(crate) fn add(&mut self, tick: u32, kind: Kind)
         requires { CanCount self.old }

@@ -1,4 +1,4 @@
-//! The report of a trace.
+//! The report of a whole trace, which is audited first.
 ghost use Rattle.std.specs.Prelude.{◌≡◌, ◌≤◌};
 ghost use Rattle.msrp_plan.specs.Common.{[], Some, Err, IfOk, OnOk, All, IsRun, verdict};
 ghost use Rattle.msrp_plan.specs.declared.faults.Fault.{Fault as TraceFault};
@@ -16,10 +16,10 @@ use thiserror::Error;
 /// Why there is no report.
 #[derive(Clone, Copy, Debug, Error, PartialEq, Eq)]
 pub enum ReportError {
-    /// The trace isn't a legal run of the plan; the first row that breaks a rule.
+    /// The trace isn't a legal run of the plan: the first row that violates a rule.
     #[error("G1: the trace is no legal run: row {} breaks {}", .0.row, .0.rule)]
     G1(Fault),
-    /// Memory was refused.
+    /// Out of memory.
     #[error("G2: memory was refused")]
     G2,
 }
@@ -46,15 +46,15 @@ fn count_all(counter: &mut Counter<'_>, rows: &[Row])
     }
 }
 
-/// The report of a trace, whoever made it. The trace is audited first: one that isn't a legal run of the plan is
-/// [`ReportError::G1`] with its verdict. It is [`ReportError::G2`] only where memory was refused.
+/// The report of any trace. A trace that isn't a legal run of the plan is [`ReportError::G1`] with
+/// its verdict; [`ReportError::G2`] comes only if memory runs out.
 pub fn report(alloc: Global, plan: &Plan, trace: &Trace) -> Result<Report, ReportError>
-    // Each number is its count over the rows, or the bound that the plan gives.
+    // Each number is its count over the rows, or the plan's bound.
     ensures lines { IfOk result (λ report. report.lines.items ≡ lines_of plan.now trace.now.rows.items) }
-    // No report of a trace that isn't legal, and no fault but that of the verdict.
+    // Only a legal trace has a report, and the only fault is the verdict's.
     ensures run { OnOk result (IsRun plan.now trace.now.rows.items) }
     ensures fault { (fault : TraceFault) → result ≡ Err (ReportError.G1 fault) → verdict plan.now trace.now.rows.items ≡ Some fault }
-    // What was counted keeps the bounds.
+    // The counts are within the bounds.
     ensures spinning { IfOk result (λ report. All (λ line. line.worst_spin ≤ line.spin_bound) report.lines.items) }
     ensures blocking { IfOk result (λ report. All (λ line. line.worst_blocked ≤ line.blocked_bound) report.lines.items) }
 {

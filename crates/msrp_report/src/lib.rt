@@ -1,7 +1,7 @@
-//! What happened to each task in a trace, beside what can happen in any run: response times, spin delay, blocking.
+//! What happened to each task in a trace, and can happen in any run: response, spinning, blocking.
 //!
-//! [`report`] judges a whole trace and makes its [`Report`], with a [`Line`] for each task. A [`Counter`] counts rows as they come that
-//! somebody else judges, and [`write_report`] writes a report as text. [`worked`] has examples.
+//! [`report`] judges a whole trace and makes its [`Report`], with a [`Line`] for each task. A
+//! [`Counter`] counts rows that its caller judges; [`write_report`] writes the text.
 #![tactic(auto)]
 
 mod bounds;

@@ -1,32 +1,32 @@
-//! Lines of a report.
+//! The numbers of a report, one line for each task.
 
-/// What a report says of one task. Times are in ticks; each row is one tick of its core. The words are those of the
-/// survey of Davis and Burns (2011).
+/// The report on one task. Times are in ticks; each row is one tick of its core. The terms are
+/// those of the survey of Davis and Burns (2011).
 #[derive(Clone, Copy, Debug, PartialEq, Eq)]
 pub struct Line {
     /// The task's jobs in the plan.
     pub jobs: u32,
     /// Its jobs that did their last action.
     pub finished: u32,
-    /// Its jobs that finished after their absolute deadline, or should have finished by the end and didn't.
+    /// Its jobs that finished after their absolute deadline, or whose deadline passed unfinished.
     pub late: u32,
-    /// The longest time from a job's release to the end of its last action, of the finished jobs.
+    /// The longest time of a finished job from its release to the end of its last action.
     pub worst_response: u32,
-    /// How often its jobs spun in all. The row in which a job joins a queue isn't counted.
+    /// The spins of all its jobs. The row in which a job joins a queue isn't counted.
     pub spin: u32,
-    /// How often one of its jobs spun in one wait, at most. A wait that hasn't ended counts.
+    /// The most spins of one job in one wait, unended waits included.
     pub worst_spin: u32,
-    /// How many rows of later jobs of its core stood while its jobs were released and unfinished.
+    /// The rows of later jobs of its core while its jobs were released and unfinished.
     pub blocked: u32,
-    /// How many such rows one of its jobs met, at most.
+    /// The most such rows for one job.
     pub worst_blocked: u32,
-    /// How often a job of it can spin in one wait, in any run.
+    /// The most spins that a job of the task can make in one wait, in any run.
     pub spin_bound: u32,
-    /// How many rows of later jobs a job of it can meet, in any run.
+    /// The most rows of later jobs that can block a job of the task, in any run.
     pub blocked_bound: u32,
 }
 
-/// A line for each task of a plan, in their order.
+/// A line for each task of a plan, in order.
 #[derive(Debug, Drop)]
 pub struct Report {
     pub lines: Vec<Line>,

@@ -1,4 +1,4 @@
-//! The numbers of one job, from what the rows of a run tell of it.
+//! One job's numbers, from its counts at the end of a run.
 ghost use Rattle.std.specs.Prelude.{◌≡◌, ◌≤◌, ◌+◌, ◌-◌};
 ghost use Rattle.msrp_plan.specs.Common.{List, cond, nat_le, nat_lt, Contains, jobs, most_rows, IsPlan};
 ghost use Rattle.msrp_plan.specs.Limits.{most_ticks};
@@ -9,19 +9,19 @@ ghost use Rattle.msrp_report.specs.Inside.Tallies.{HasTallied, ToldAll};
 use crate::tallies::Tallies;
 use msrp_plan::{JobId, JobKey, Plan};
 
-/// What a run says of one job.
+/// The report's numbers for one job.
 #[derive(Clone, Copy)]
 pub(crate) struct JobNumbers {
     pub(crate) finished: bool,
     pub(crate) late: bool,
-    /// From its release to the end of its last action; 0 where it isn't finished.
+    /// From its release to the end of its last action; 0 if it isn't finished.
     pub(crate) response: u32,
     pub(crate) spins: u32,
     pub(crate) longest_wait: u32,
     pub(crate) blocked: u32,
 }
 
-// Whether a job is late that is finished or not: it ended after its absolute deadline, or the run did.
+// Whether a job is late: it, or the run if it isn't finished, ended after its absolute deadline.
 fn is_late(finished: bool, key: JobKey, end: u64, ticks: u32) -> bool
     ensures { result ≡ cond finished (nat_lt key.deadline end) (nat_le key.deadline ticks) }
 {
@@ -32,7 +32,7 @@ fn is_late(finished: bool, key: JobKey, end: u64, ticks: u32) -> bool
     }
 }
 
-// How long a job took from its release to its end; 0 where it isn't finished.
+// The time from a job's release to its end; 0 if it isn't finished.
 fn response_of(finished: bool, key: JobKey, end: u64) -> u32
     requires { end ≤ most_ticks + 1 }
     ensures { result ≡ cond finished (end - key.release) 0 }
@@ -44,7 +44,7 @@ fn response_of(finished: bool, key: JobKey, end: u64) -> u32
     }
 }
 
-/// The numbers of a job of the plan, from what all rows of a run tell of it.
+/// The numbers of a job of the plan, from the counts over all rows of a run.
 pub(crate) fn job_numbers(plan: &Plan, tallies: &Tallies, job: JobId) -> JobNumbers
     requires plan { IsPlan plan.now }
     requires job { Contains (jobs plan.now) job }

@@ -1,4 +1,4 @@
-//! What the rows so far tell of each job, without the rows.
+//! The counts of all jobs over the rows so far; no row is stored.
 
 ghost use Rattle.std.specs.Prelude.{◌≡◌};
 ghost use Rattle.msrp_plan.specs.Common.{ℕ, List, Contains, PlanModel, jobs, blocked, IsPlan};
@@ -15,54 +15,53 @@ mod feeding;
 mod releasing;
 mod starting;
 
-/// How long a job is blocked, as far as the rows tell. Who blocks it is known at its release, and it is
-/// blocked until it starts.
+/// How long a job is blocked, as far as the rows say. Its blocker is known at its release, and it
+/// is blocked until it starts.
 #[derive(Clone, Copy)]
 pub(crate) enum Blocking {
-    /// By so many rows, and by no later one: it is started, or nobody blocks it, or it isn't released yet.
+    /// By this many rows, final: it is started, or nobody blocks it, or it isn't released yet.
     Over(u32),
-    /// It waits, and each row of this job blocks it. So many rows of that job came before the release.
+    /// It waits, and each row of this job blocks it, except the `before` rows before the release.
     By { job: JobId, before: u32 },
 }
 
-/// What the rows so far tell of one job.
+/// One job's counts over the rows so far.
 #[derive(Clone, Copy)]
 pub(crate) struct JobTally {
     pub(crate) count: JobCount,
     pub(crate) blocking: Blocking,
 }
 
-/// What they tell of the jobs of one task.
+/// The counts of one task's jobs.
 #[derive(Drop)]
 pub(crate) struct TaskTally {
     pub(crate) jobs: Vec<JobTally>,
-    /// How many units each of them has.
+    /// The units of each job.
     pub(crate) units: u32,
-    /// How many of them are released.
+    /// The number of released jobs.
     pub(crate) released: u32,
 }
 
-/// The next release of a task, or the plan's end where it has none left.
+/// The next release of a task, or the plan's end if none is left.
 #[derive(Clone, Copy)]
 pub(crate) struct NextRelease {
     pub(crate) tick: u32,
     pub(crate) task: TaskId,
 }
 
-/// What they tell of all jobs of a plan, task by task.
+/// The counts of all jobs of a plan, task by task.
 #[derive(Drop)]
 pub(crate) struct Tallies {
     pub(crate) tasks: Vec<TaskTally>,
-    /// Of each core the jobs that are started and unfinished.
+    /// By core: the started, unfinished jobs.
     pub(crate) active: Vec<CoreJobs>,
-    /// How many ticks have begun.
+    /// The number of ticks begun.
     pub(crate) begun: u32,
     /// The next release of each task, the earliest first.
     pub(crate) releases: Vec<NextRelease>,
 }
 
 impl Tallies {
-    // What the rows tell of a job.
     #[inline(always)]
     fn tally_of(&self, job: JobId) -> JobTally
         requires { ToldOf self.now.tasks.items job }
@@ -71,7 +70,7 @@ impl Tallies {
         self.tasks[job.task.0 as usize].jobs[job.k as usize]
     }
 
-    /// What the job's own rows tell of it.
+    /// The counts of the job's own rows.
     #[inline(always)]
     pub(crate) fn count_of(&self, job: JobId) -> JobCount
         requires { ToldOf self.now.tasks.items job }
@@ -80,7 +79,7 @@ impl Tallies {
         self.tally_of(job).count
     }
 
-    /// How many rows have blocked a job.
+    /// The number of rows that have blocked a job.
     pub(crate) fn blocked(&self, job: JobId) -> u32
         requires { ToldOf self.now.tasks.items job }
         ensures { (plan : PlanModel) (rows : List TraceRow) (begun : ℕ → ℕ) → IsPlan plan → AreTallies plan rows begun self.now.tasks.items → Contains (jobs plan) job → result ≡ blocked plan rows job }

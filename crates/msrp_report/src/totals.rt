@@ -1,4 +1,4 @@
-//! The line of one task.
+//! The line of one task, summed over its jobs.
 ghost use Rattle.std.specs.Prelude.{◌≡◌, ◌<◌};
 ghost use Rattle.msrp_plan.specs.Common.{List, length, IsPlan};
 ghost use Rattle.msrp_plan.specs.declared.rows.Row.{Row as TraceRow};
@@ -14,7 +14,7 @@ use msrp_levels::Levels;
 use msrp_plan::{JobId, Plan, TaskId};
 
 impl Line {
-    // With one job of the task more.
+    // Adds a job of the task.
     fn with_job(self, numbers: JobNumbers) -> Line
         requires { HasSpace numbers self }
         ensures { result ≡ line_with numbers self }
@@ -32,7 +32,7 @@ impl Line {
     }
 }
 
-/// The line of a task, from what the rows of a run tell of its jobs. The levels are the plan's.
+/// The line of a task, from the counts over a run. The levels are the plan's.
 pub(crate) fn task_line(plan: &Plan, levels: &Levels<'_>, tallies: &Tallies, task: TaskId) -> Line
     requires plan { IsPlan plan.now }
     requires levels { levels.now ≡ plan.now }

@@ -1,4 +1,4 @@
-//! A report as text.
+//! A report as text of version 2 (`docs/REPORT.md`).
 ghost use Rattle.std.specs.Prelude.{◌≡◌, ◌<◌};
 ghost use Rattle.msrp_plan.specs.Common.{length, true, false, OnOk, OnErr, Wrote, sink_failed, slice_index_or};
 ghost use Rattle.msrp_text.specs.PlanText.{record_text};
@@ -28,9 +28,9 @@ fn write_line<W: Write>(out: &mut Sink<W>, plan: &Plan, task: TaskId, line: Line
     out.add(b"\n");
 }
 
-/// Writes the report of a trace of the plan, in version 2 of its text: a record `msrp-report,2`, and then one for each
-/// task, with its name, its core, and the numbers of its line in their order. A [`WriteFault`] is answered exactly if the
-/// sink has failed; what was written is then a first part of the text.
+/// Writes the report of a trace of the plan: a record `msrp-report,2`, then one for each task, with
+/// its name, its core, and the numbers of its line in order. [`WriteFault`] exactly if the sink has
+/// failed; the output is then a prefix of the text.
 pub fn write_report<W: Write>(
     out: &mut Sink<W>,
     plan: &Plan,

@@ -1,4 +1,4 @@
--- A board that no run leaves: its only core has requested the resource, and is in the last of 6 ticks.
+-- A board that no run leaves: its only core has requested the resource, in the last of 6 ticks.
 use Rattle.std.specs.Prelude.{◌∷◌}
 use Rattle.msrp_plan.specs.Common.{[], false, true}
 use Rattle.msrp_plan.specs.declared.units.Call.TheVariants.{Ask}

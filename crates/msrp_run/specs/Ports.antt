@@ -1,4 +1,4 @@
--- A core's seat as the port of its machine: what the port tells of the seat, and the one step that is made through it.
+-- A core's seat as the port of its machine, and the one step that is made through it.
 use Rattle.std.specs.Prelude.{◌≡◌, ◌⊎◌}
 use Rattle.msrp_plan.specs.Common.{ℕ, List, [], Option, Some, None, map, ResCall, claim_after, IsDueCall, PlanModel}
 use Rattle.msrp_plan.specs.declared.rows.Row.{Row}
@@ -17,17 +17,16 @@ use Rattle.msrp_merge.specs.declared.logs.Place.{Place}
 abbrev pub calls_by : CoreId → List ResCall → List PortCall
 calls_by core calls = map (λ s. record { core = core; res = s.0; call = s.1 }) calls
 
--- the port that a core's seat is: the calls are those of its book, and one call more may be made in a tick
+-- the port of a core's seat: the calls are those of its book, and one more is allowed in a tick
 abbrev pub port_of : CoreId → SeatModel → PortModel
 port_of core seat = record { calls = calls_by core (port_calls seat core.0); rooms = port_room seat; resources = seat.board.size.resources }
 
--- what was done through a seat since it was `first`: nothing, or one step in
--- its turn, at this place, after which there is no room
+-- what was done through a seat since it was `first`: nothing, or one step, at this place
 abbrev pub IsStepSince : ℕ → SeatModel → Option Place → SeatModel → Type 0
 IsStepSince c first None seat = seat ≡ first
 IsStepSince c first (Some p) seat = (res : ResId) × (call : Call) × (p.polled ≡ is_poll call) × (seat ≡ with_entry res p.number call first) × (port_room seat c ≡ 0) × IsDueCall (claim_after (port_calls first c)) res call
 
--- what a seat port keeps: its seat is that of its core, let into its tick, and has made at most one step
+-- what holds of a seat port: its core's seat, let into its tick, which has made at most one step
 pub record IsSeatPort (c : ℕ) (first : SeatModel) (board : BoardModel) (core : CoreId) (place : Option Place) (seat : SeatModel) : Type 0 where
   pub of_core : core.0 ≡ c
   pub port : IsPort board c seat
@@ -39,7 +38,7 @@ pub record SeatPortModel : Type 0 where
   pub seat : SeatModel
   pub place : Option Place
 
--- what a turn asked of its port: one call, which makes the row, or nothing, where the row is on no global resource
+-- a turn's call of its port: one call, which makes the row, or none on no global resource
 abbrev pub HasAsked : PlanModel → Row → PortModel → PortModel → Type 0
 HasAsked plan r before after = MakesCall plan r before after ⊎ (IsQuiet plan r × (after ≡ before))
 

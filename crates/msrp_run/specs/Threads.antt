@@ -32,17 +32,17 @@ pub record AreNewParts (plan : PlanModel) (c : ℕ) (parts : CoreParts) : Type 0
   pub new : StandsAfter parts.machine []
   pub log : parts.log ≡ record { core = c; ticks = plan.ticks; turns = [] }
 
--- one for each core, cores rising
+-- one for each core, in rising order
 abbrev pub AllAreNew : PlanModel → List CoreParts → Type 0
 AllAreNew plan all_parts = (k : ℕ) (d : CoreParts) → k < length all_parts → AreNewParts plan k (slice_index_or all_parts k d)
 
--- the conductor's seat while the seats of the first n cores are out: it holds the empty books of the others
+-- the conductor's seat while the first n seats are out: it has the empty books of the others
 pub record HasOthers (board : BoardModel) (n : ℕ) (seat : SeatModel) : Type 0 where
   pub on : seat.board ≡ board
   pub books : (c : ℕ) → n ≤ c → c < board.size.cores → book_at seat c ≡ Some empty_book
   pub conductor : seat.conductor ≡ Some Unopened
 
--- what the conductor does: it lets the cores in where all threads were started, and else calls the run off
+-- what the conductor does: it opens if all threads were started, and otherwise calls the run off
 abbrev pub ordered : Bool → Conductor
 ordered true = Opened
 ordered false = Aborted
@@ -59,15 +59,15 @@ pub record IsPromise (board : BoardModel) (plan : PlanModel) (c : ℕ) (p : Work
   pub on : p.seat.value.board ≡ board
   pub plan_is : p.plan.value ≡ plan
 
--- the promises of the threads of the cores, rising
+-- the promises of the threads of the cores, in rising order
 abbrev pub ArePromised : {T : Type 0} → BoardModel → PlanModel → List (PromisedHandle T WorkPromise) → Type 0
 ArePromised board plan handles = (k : ℕ) (d : _) → k < length handles → IsPromise board plan k (slice_index_or handles k d).promise
 
--- the logs of the first cores are what their workers give back, with their books in the seat
+-- the logs of the first cores are what their workers return, with their books in the seat
 abbrev pub AllWorked : PlanModel → List LogModel → SeatModel → Type 0
 AllWorked plan logs seat = (k : ℕ) → k < length logs → (b : Book) × (book_at seat k ≡ Some b) × IsWorked plan k (log_at logs k) b
 
--- the workers that were started have ended: each has left its log, and the seat holds all books and the conductor's
+-- the started workers have ended: each has left its log, and the seat has all books
 pub record HasEnded (board : BoardModel) (plan : PlanModel) (ended : Ended) : Type 0 where
   pub few : length ended.logs.items ≤ plan.cores
   pub all : IsTrue ended.all → length ended.logs.items ≡ plan.cores
@@ -78,7 +78,7 @@ pub record HasEnded (board : BoardModel) (plan : PlanModel) (ended : Ended) : Ty
 abbrev pub AreDone : ℕ → List Book → Type 0
 AreDone ticks books = (c : ℕ) (b : Book) → slice_get books c ≡ Some b → phase_in ticks b ≡ Done
 
--- all cores were let in and have ended: their logs are runs of the cores, which carry their aheads and fit the board's books
+-- all cores have ended: their logs are runs of the cores, carry aheads and fit the board's books
 pub record HasRun (plan : PlanModel) (logs : List LogModel) (board : WholeBoard) : Type 0 where
   pub logs_are : AreLogs plan logs (entries_at board.books)
   pub aheads : (c : ℕ) → c < plan.cores → carries_ahead (rows_of (turns_of logs c)) ≡ true
@@ -90,13 +90,13 @@ pub record IsCalledOff (logs : List LogModel) (board : WholeBoard) : Type 0 wher
   pub aborted : board.conductor ≡ Aborted
   pub empty : (k : ℕ) → k < length logs → turns_of logs k ≡ []
 
--- the rows' steps on resource g are, in their order, its one history on the board: what its ticket word counts, answered as
--- a first-in-first-out lock answers
+-- the rows' steps on resource g are, in order, its one history on the board: it fits the ticket
+-- word's counts and has the answers of a first-in-first-out lock
 abbrev pub IsServedAs : WholeBoard → ℕ → List Row → Type 0
 IsServedAs board g rows = (h : List Event) × IsServed (slice_index board.tickets g) g (entries_at board.books) h × Paired IsRowOfEvent (filter (is_row_on g) rows) h
 
--- the rows are the turns of the cores' logs, whose places are those in the books: they stand by tick, and the turns of a tick by
--- rank, those without a place first, by core, then the others by resource and place
+-- the rows are the turns of the cores' logs, with the places of the books: by tick, and in a tick
+-- by rank: those without a place first, by core, then the others by resource and place
 pub record IsInOrder (plan : PlanModel) (books : ℕ → List Entry) (rows : List Row) : Type 0 where
   pub logs : List LogModel
   pub fit : AreLogs plan logs books
@@ -104,9 +104,9 @@ pub record IsInOrder (plan : PlanModel) (books : ℕ → List Entry) (rows : Lis
   pub rows_are : rows ≡ rows_of turns
   pub sorted : IsMerged plan.cores plan.ticks (turns_of logs) turns
 
--- the rows are a legal run of the plan, which keeps the laws and tells the length of each queue; and they are what the cores did
--- on this board: it was opened, each core has arrived from its last tick, the steps on each resource are its one history, and
--- the rows stand in the board's order
+-- the rows are a legal run of the plan that obeys the laws and carries each queue's length; and
+-- they are what the cores did on this board: it was opened, each core has arrived from its last
+-- tick, the steps on each resource are its one history, and the rows are in the board's order
 pub record IsRunOfBoard (plan : PlanModel) (board : WholeBoard) (rows : List Row) : Type 0 where
   pub run : IsRun plan rows
   pub laws : KeepsLaws plan rows

@@ -1,4 +1,4 @@
--- One core's turn on a board: what its machine, its log and its seat must be before it, and what they are after it.
+-- One core's turn on a board: its machine, log and seat before the turn, and after it.
 use Rattle.std.specs.Prelude.{◌≡◌, ◌++◌, ◌∷◌}
 use Rattle.msrp_plan.specs.Common.{[], List, Option, None, true, false, carries_its_ahead, IsCoreTurn}
 use Rattle.msrp_plan.specs.declared.rows.Row.{Row}
@@ -13,9 +13,9 @@ use Rattle.msrp_merge.specs.declared.logs.Turn.{Turn}
 use Rattle.msrp_merge.specs.Merging.{size_of}
 use Rattle.msrp_merge.specs.Turns.{LogModel, IsTurnOf, is_step, rows_of}
 
--- a core may have its turn on a board of its plan: the machine stands after the log, which is of its core and for the
--- plan's ticks, and the seat is the core's, let into the machine's tick, has not acted in it, and holds or awaits what the
--- machine does
+-- a core may have its turn on a board of its plan: the machine stands after the log, which is of
+-- its core and for the plan's ticks; the seat is the core's, in the machine's tick, hasn't acted,
+-- and holds or awaits what the machine does
 pub record MayTurn (board : BoardModel) (m : MachineModel) (log : LogModel) (seat : SeatModel) : Type 0 where
   pub stands : StandsAfter m (rows_of log.turns)
   pub log_core : log.core ≡ m.core
@@ -29,7 +29,7 @@ pub record MayTurn (board : BoardModel) (m : MachineModel) (log : LogModel) (sea
   pub tick : book.tick ≡ m.tick
   pub claims : lock_of book ≡ m.phase
 
--- a turn and the entries of its core's book: a turn on no global resource adds none, and any other adds the one that it is of
+-- a turn and the entries of its core's book: exactly a turn on a global resource adds its own
 pub data IsOneStep (turn : Turn) (before after : List Entry) : Type 0 where
   NoStep : (bare : turn.place ≡ None) (quiet : is_step turn.row.kind ≡ false) (same : after ≡ before) → IsOneStep turn before after
   OneStep : (entry : Entry) (told : IsTurnOf turn entry) (added : after ≡ before ++ entry ∷ []) → IsOneStep turn before after
@@ -43,8 +43,8 @@ pub record CoreModel : Type 0 where
 abbrev pub core_with : MachineModel → LogModel → SeatModel → CoreModel
 core_with m log seat = record { machine = m; log = log; seat = seat }
 
--- the core had its turn: the row is its next one and stands at the end of its log, after which the machine stands; the seat is the
--- same core's on the same board, still in the same tick, and its book has the turn's entry
+-- the core had its turn: the row is its next and its log's last one, after which the machine
+-- stands; the seat is the same core's, in the same tick, and its book has the turn's entry
 pub record HasTurned (board : BoardModel) (old : CoreModel) (row : Row) (new : CoreModel) : Type 0 where
   pub plan : new.machine.plan ≡ old.machine.plan
   pub core : new.machine.core ≡ old.machine.core

@@ -1,4 +1,4 @@
--- What a worker is given, and what it gives back.
+-- What a worker is given, and what it returns.
 use Rattle.std.specs.Prelude.{◌≡◌, ◌⊎◌}
 use Rattle.msrp_plan.specs.Common.{ℕ, [], length, true, carries_ahead, PlanModel, CoreRun}
 use Rattle.msrp_board.specs.declared.answers.SeatPhase.TheVariants.{Waiting, Done, Stopped}
@@ -12,8 +12,8 @@ use Rattle.msrp_plan.specs.declared.rows.Row.{Row}
 use Rattle.msrp_board.specs.Steps.{with_admission}
 use Rattle.msrp_run.specs.Turns.{CoreModel, HasTurned, core_with}
 
--- a core before its first turn: a new machine, an empty log for the plan's ticks, and the core's seat on a board of the
--- plan, which waits for tick 0
+-- a core before its first turn: a new machine, an empty log for the plan's ticks, and the core's
+-- seat on a board of the plan, which waits for tick 0
 pub record IsNew (board : BoardModel) (m : MachineModel) (log : LogModel) (seat : SeatModel) : Type 0 where
   pub stands : StandsAfter m []
   pub empty : log ≡ record { core = m.core; ticks = m.plan.ticks; turns = [] }
@@ -21,8 +21,8 @@ pub record IsNew (board : BoardModel) (m : MachineModel) (log : LogModel) (seat 
   pub on : seat.board ≡ board
   pub of_core : IsCoreSeat seat m.core empty_book
 
--- a core between two of its turns, while it waits for its tick: its log is a run of the core that fits its book, and its
--- machine stands after the log
+-- a core between two turns, waiting for its tick: its log is a run of the core that fits its book,
+-- and its machine stands after the log
 pub record IsAtWork (board : BoardModel) (plan : PlanModel) (c : ℕ) (m : MachineModel) (log : LogModel) (seat : SeatModel) : Type 0 where
   pub plan_is : m.plan ≡ plan
   pub core : m.core ≡ c
@@ -40,15 +40,15 @@ pub record IsAtWork (board : BoardModel) (plan : PlanModel) (c : ℕ) (m : Machi
   pub fits : Fits log.turns book.entries
   pub aheads : carries_ahead (rows_of log.turns) ≡ true
 
--- a core within its turn: it was at work, was let into its tick, and had the turn that made this row
+-- a core in its turn: it was at work, was let into its tick, and had the turn with this row
 pub record IsInTurn (board : BoardModel) (plan : PlanModel) (c : ℕ) (m : MachineModel) (log : LogModel) (seat : SeatModel) : Type 0 where
   pub before : CoreModel
   pub at_work : IsAtWork board plan c before.machine before.log before.seat
   pub row : Row
   pub turned : HasTurned board (core_with before.machine before.log (with_admission before.seat)) row (core_with m log seat)
 
--- the whole log of a core: a run of the core to the plan's last tick, whose queue rows carry their aheads, and which fits
--- the book of the core, which has arrived from its last tick
+-- the whole log of a core: a run of the core to the plan's last tick, which carries its aheads and
+-- fits the book of the core, which has arrived from its last tick
 pub record IsWhole (plan : PlanModel) (c : ℕ) (log : LogModel) (b : Book) : Type 0 where
   pub core : log.core ≡ c
   pub run : CoreRun plan c (rows_of log.turns)
@@ -57,7 +57,7 @@ pub record IsWhole (plan : PlanModel) (c : ℕ) (log : LogModel) (b : Book) : Ty
   pub fits : Fits log.turns b.entries
   pub done : phase_in plan.ticks b ≡ Done
 
--- the log of a core that was told to stop: it is empty
+-- the log of a core that saw the stop: it is empty
 pub record IsStopped (plan : PlanModel) (c : ℕ) (log : LogModel) (b : Book) : Type 0 where
   pub core : log.core ≡ c
   pub empty : log.turns ≡ []
@@ -67,7 +67,7 @@ pub record IsStopped (plan : PlanModel) (c : ℕ) (log : LogModel) (b : Book) : 
 abbrev pub IsWorked : PlanModel → ℕ → LogModel → Book → Type 0
 IsWorked plan c log b = IsWhole plan c log b ⊎ IsStopped plan c log b
 
--- what the worker of a core gives back: its log, and the same core's seat on the same board
+-- what the worker of a core returns: its log, and the same core's seat on the same board
 pub record HasWorked (board : BoardModel) (plan : PlanModel) (c : ℕ) (log : LogModel) (seat : SeatModel) : Type 0 where
   pub on : seat.board ≡ board
   pub book : Book

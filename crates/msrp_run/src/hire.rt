@@ -1,17 +1,17 @@
-//! Which threads may be started, and why a run is refused.
+//! Which threads may start, and why a run is refused.
 ghost use Rattle.std.specs.Prelude.{◌≡◌, true};
 
 use msrp_plan::{CoreId, Memory};
 use thiserror::Error;
 
-/// Says whether the thread of a core may be started. It is asked once for each core, cores rising, before the thread is
-/// started; a no counts as a thread that was refused.
+/// Decides whether a core's thread may start. Called once for each core, in rising order, just
+/// before the start. A no counts as a failed start.
 pub trait Hire {
-    /// Whether the core's thread may be started.
+    /// Whether the core's thread may start.
     fn may_start(&self, core: CoreId) -> bool;
 }
 
-/// Lets every thread be started.
+/// Lets every thread start.
 #[derive(Clone, Copy, Debug)]
 pub struct HireAll;
 
@@ -26,10 +26,10 @@ impl Hire for HireAll {
 /// Why a plan was not run.
 #[derive(Clone, Copy, Debug, Error, PartialEq, Eq)]
 pub enum RunError {
-    /// Memory was refused, before the first tick or after the last.
+    /// Out of memory, before the first tick or after the last.
     #[error("U1: memory was refused")]
     U1,
-    /// A thread was refused, so that no core had a turn. Want of memory in a thread's start isn't told apart.
+    /// A thread couldn't be started, so no core had a turn; also if the start lacked memory.
     #[error("U2: a thread was refused")]
     U2,
 }

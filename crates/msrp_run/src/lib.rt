@@ -1,6 +1,6 @@
 //! A plan on threads: one worker for each core, on one board, and the trace of what they did.
 //!
-//! [`turn_on`] is one core's turn on a board. A [`Stage`] makes the turns of all cores, each on the thread of its core.
+//! [`turn_on`] is one core's turn on a board. A [`Stage`] makes all turns, each on its thread.
 #![tactic(auto)]
 
 mod hire;

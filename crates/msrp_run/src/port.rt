@@ -10,7 +10,7 @@ use msrp_merge::Place;
 use msrp_plan::{CoreId, ResId};
 use std::marker::{Brand, Model, PhantomData};
 
-/// Names a core, and its seat as it was before the turn.
+/// Names a core, and its seat before the turn.
 pub(crate) trait FirstSeat {
     ghost use Rattle.std.specs.Prelude.{ℕ};
     ghost use Rattle.msrp_board.specs.Seats.{SeatModel};
@@ -28,7 +28,7 @@ impl FirstSeat for Brand {
     ghost first = { no_seat };
 }
 
-/// The seat of a core that is let into its tick, with the place of the step that was made through it.
+/// The seat of a core that is let into its tick, and the place of its step, once made.
 #[derive(Drop)]
 pub(crate) struct SeatPort<'a, B: FirstSeat> {
     pub(crate) board: &'a Board,

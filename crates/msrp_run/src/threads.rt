@@ -1,4 +1,4 @@
-//! A thread for each core: they are started, let in, and joined.
+//! A run with a thread for each core: threads are started, cores let in, and threads joined.
 ghost use Rattle.std.specs.Prelude.{◌≡◌, ◌+◌, ◌<◌, ◌≤◌};
 ghost use Rattle.msrp_plan.specs.Common.{ℕ, [], IfOk, IfErr, IsTrue, length, true, false, vec_capacity, vec_len, carries_ahead, IsPlan};
 ghost use Rattle.msrp_board.specs.declared.books.Conductor.TheVariants.{Opened, Aborted};
@@ -27,7 +27,7 @@ impl Promise<(CoreLog, BoardSeat)> for WorkPromise {
     ghost kept_by = { λ p r. HasWorked p.seat.value.board p.plan.value p.core.0 r.0 r.1 };
 }
 
-/// A machine and an empty log for each core, cores rising. The levels are those of the plan.
+/// A machine and an empty log for each core, in rising order. The levels are the plan's.
 pub fn parts_of<'a>(
     alloc: Global,
     plan: &'a Plan,
@@ -58,14 +58,14 @@ impl WorkPromise {
     }
 }
 
-// What a thread owns of its core: the machine, whatever it borrows. A closure that owns a value of a type parameter is known
-// to return what its contract says; of one that owns what names a lifetime nothing is known.
+// What a thread owns of its core, whatever lifetime the machine borrows for. A closure that owns a
+// value of a type parameter has a known result; one that owns a value with a named lifetime hasn't.
 trait CoreWork: Send + Drop {
     ghost use Rattle.msrp_core.specs.Machine.{MachineModel};
 
     ghost machine: { Self → MachineModel };
 
-    // The work of the core, with its log and seat.
+    // Does the core's work, with its log and seat.
     fn work<R: Wait, S: Stage>(
         self,
         rt: &R,
@@ -93,7 +93,7 @@ impl CoreWork for Machine<'_> {
     }
 }
 
-// The work of a core, as its thread promises it.
+// The core's work, with the promise of its thread.
 fn work_as<R: Wait, S: Stage, W: CoreWork>(
     rt: &R,
     given: WorkPromise,
@@ -110,8 +110,8 @@ fn work_as<R: Wait, S: Stage, W: CoreWork>(
     machine.work(rt, log, seat, board, stage)
 }
 
-// Starts the thread that does the work of a core. The promise and what the closure is given are the same. Where the thread is
-// refused the run is called off, and the core's work is done here: it is told so, and its seat joins the others.
+// Starts the thread for a core's work. The thread's promise is the closure's. If the start fails,
+// the run is called off, the core's work sees the stop here, and its seat joins the others.
 fn start<'s, E, R: Wait + Sync, S: Stage + Sync, W: CoreWork + 's>(
     scope: &'s Scope<'s, E>,
     rt: &'s R,
@@ -147,7 +147,7 @@ fn start<'s, E, R: Wait + Sync, S: Stage + Sync, W: CoreWork + 's>(
     }
 }
 
-// Starts the worker of the next core, with its seat out of those that are left. Where it isn't to be started the run is called off.
+// Starts the next core's worker, with its seat from the rest, or calls the run off.
 fn start_next<'s, E, R: Wait + Sync, S: Stage + Sync, H: Hire>(
     scope: &'s Scope<'s, E>,
     rt: &'s R,
@@ -177,7 +177,7 @@ fn start_next<'s, E, R: Wait + Sync, S: Stage + Sync, H: Hire>(
     )
 }
 
-// Starts the workers, cores rising. Once all are started it lets the cores in; where a thread is refused it calls the run off.
+// Starts the workers, in rising order, then lets the cores in, or calls the run off.
 fn start_all<'s, E, R: Wait + Sync, S: Stage + Sync, H: Hire>(
     scope: &'s Scope<'s, E>,
     rt: &'s R,
@@ -223,7 +223,8 @@ fn start_all<'s, E, R: Wait + Sync, S: Stage + Sync, H: Hire>(
     }
 }
 
-// Joins the workers, cores rising, and their seats into one. They end, since the cores were let in or the run was called off.
+// Joins the workers in rising order, and their seats into one. They end, since the cores were let
+// in or the run was called off.
 fn join_all<R: Threads>(
     rt: &R,
     _plan: &Plan,
@@ -256,7 +257,7 @@ fn join_all<R: Threads>(
     }
 }
 
-// Makes what the cores need, starts the workers, and joins those that were started.
+// Allocates what the cores need, starts the workers, and joins the started ones.
 fn conduct<'s, E, R: Threads + Wait + Sync, S: Stage + Sync, H: Hire, L: PlanLevels>(
     scope: &'s Scope<'s, E>,
     rt: &'s R,
@@ -282,7 +283,7 @@ fn conduct<'s, E, R: Threads + Wait + Sync, S: Stage + Sync, H: Hire, L: PlanLev
     Ok(join_all(rt, plan, board, started, logs))
 }
 
-// The levels of a plan, by a type that does not tell what they borrow, for the same reason as `CoreWork`.
+// The levels of a plan as a type parameter, for the reason given at `CoreWork`.
 trait PlanLevels {
     ghost use Rattle.msrp_plan.specs.Plan.{PlanModel};
 
@@ -300,7 +301,7 @@ impl PlanLevels for Levels<'_> {
     }
 }
 
-// Starts and joins the workers in a scope of their own, which ends with its threads.
+// Starts and joins the workers in their own scope, which ends with its threads.
 fn on_threads<R: Threads + Wait + Sync, S: Stage + Sync, H: Hire, L: PlanLevels>(
     rt: &R,
     alloc: Global,
@@ -326,8 +327,8 @@ fn on_threads<R: Threads + Wait + Sync, S: Stage + Sync, H: Hire, L: PlanLevels>
     )
 }
 
-// The logs and the board as the threads left them, and whether all threads were started. So only a thread that was refused is
-// told as such, and only memory that was refused as memory.
+// The logs and the board after the threads, and whether all threads were started. So a failed start
+// and a failed allocation are reported apart.
 fn settled_run<R: Threads + Wait + Sync, S: Stage + Sync, H: Hire>(
     rt: &R,
     alloc: Global,
@@ -337,7 +338,7 @@ fn settled_run<R: Threads + Wait + Sync, S: Stage + Sync, H: Hire>(
 ) -> Result<(Vec<CoreLog>, Settled, bool), Memory>
     ensures run { IfOk result (λ r. IsTrue r.2 → HasRun plan.now r.0.items r.1) }
 
-    // Where a thread was refused, no core has made a row.
+    // If a thread wasn't started, no core has made a row.
     ensures off { IfOk result (λ r. r.2 ≡ false → IsCalledOff r.0.items r.1) }
     ensures board { IfOk result (λ r. (r.1.size ≡ size_of plan.now) × IsTied r.1) }
     ensures plan { IfOk result (λ _. IsPlan plan.now) }
@@ -352,11 +353,12 @@ fn settled_run<R: Threads + Wait + Sync, S: Stage + Sync, H: Hire>(
     Ok((logs, board.settle(seat), all))
 }
 
-/// Runs the plan with a thread for each core that `hire` allows, and gives the log of each core, cores rising, and the board
-/// as the threads left it. [`run_threads_if`] merges them; a caller that needs each row once saves the memory of the trace.
+/// Runs the plan with a thread for each core that `hire` allows. Returns each core's log, in rising
+/// order, and the board. [`run_threads_if`] merges the logs; a caller that needs each row only once
+/// saves the trace's memory.
 ///
-/// All memory that a core needs is taken before the first thread starts, and the cores are let in once all threads are
-/// started: on [`RunError::U2`] no core had a turn. It waits for its threads, so what it promises holds where it returns.
+/// All memory that a core needs is allocated before the first thread starts, and the cores are let
+/// in after the last start: on [`RunError::U2`] no core had a turn. The call waits for its threads.
 pub fn run_logged_if<R: Threads + Wait + Sync, S: Stage + Sync, H: Hire>(
     rt: &R,
     alloc: Global,
@@ -368,7 +370,7 @@ pub fn run_logged_if<R: Threads + Wait + Sync, S: Stage + Sync, H: Hire>(
     ensures logs { IfOk result (λ r. AreLogs plan.now r.0.items (entries_at r.1.books)) }
     ensures aheads { IfOk result (λ r. (c : ℕ) → c < plan.now.cores → carries_ahead (rows_of (turns_of r.0.items c)) ≡ true) }
 
-    // The board is that of this run: it was opened, and each core has arrived from its last tick.
+    // The board is this run's: it was opened, and each core has arrived from its last tick.
     ensures board { IfOk result (λ r. (r.1.size ≡ size_of plan.now) × IsTied r.1) }
     ensures opened { IfOk result (λ r. r.1.conductor ≡ Opened) }
     ensures done { IfOk result (λ r. AreDone plan.now.ticks r.1.books) }
@@ -381,8 +383,8 @@ pub fn run_logged_if<R: Threads + Wait + Sync, S: Stage + Sync, H: Hire>(
     Ok((logs, settled))
 }
 
-/// Runs the plan with a thread for each core that `hire` allows, as [`run_logged_if`] does, and merges the logs. The trace is a
-/// legal run of MSRP (Gai, Lipari and Di Natale 2001), whatever way the threads' steps interleaved.
+/// Runs the plan as [`run_logged_if`] does, and merges the logs. The trace is a legal run of MSRP
+/// (Gai, Lipari and Di Natale 2001), for any interleaving of the threads' steps.
 pub fn run_threads_if<R: Threads + Wait + Sync, S: Stage + Sync, H: Hire>(
     rt: &R,
     alloc: Global,
@@ -390,8 +392,9 @@ pub fn run_threads_if<R: Threads + Wait + Sync, S: Stage + Sync, H: Hire>(
     stage: &S,
     hire: &H,
 ) -> Result<(Trace, Settled), RunError>
-    // The rows are a legal run, and what the cores did on this board. So each resource has one holder at most, others come to
-    // hold it at most m - 1 times while a job waits for it, on m cores, and spinning and blocking are bounded.
+    // The rows are a legal run, and what the cores did on this board. So, on m cores, each resource
+    // has at most one holder, others acquire it at most m - 1 times while a job waits for it, and
+    // spinning and blocking are bounded.
     ensures { IfOk result (λ r. IsRunOfBoard plan.now r.1 r.0.rows.items) }
 {
     let (logs, settled) = run_logged_if(rt, alloc, plan, stage, hire)?;
@@ -399,7 +402,7 @@ pub fn run_threads_if<R: Threads + Wait + Sync, S: Stage + Sync, H: Hire>(
     Ok((trace, settled))
 }
 
-/// Runs the plan with a thread for each core, as [`run_threads_if`] does where every thread may be started.
+/// Runs the plan as [`run_threads_if`] does, when every thread may start.
 pub fn run_threads<R: Threads + Wait + Sync, S: Stage + Sync>(
     rt: &R,
     alloc: Global,

@@ -1,4 +1,4 @@
-//! One core's turn on a board, and who makes the turns.
+//! One core's turn on a board, and the stage that makes the turns.
 ghost use Rattle.std.specs.Prelude.{◌≡◌, ◌<◌, ◌++◌, ◌∷◌};
 ghost use Rattle.msrp_plan.specs.Common.{[], List, IsCoreTurn};
 ghost use Rattle.msrp_plan.specs.declared.rows.Row.{Row as TraceRow};
@@ -14,7 +14,7 @@ use msrp_merge::{CoreLog, Place};
 use msrp_plan::Row;
 use std::marker::Brand;
 
-// The core's turn, with its seat as the machine's port, which is made and taken apart here.
+// The core's turn, with its seat as the machine's port, which lives only here.
 fn turn_through<B: FirstSeat>(
     machine: &mut Machine<'_>,
     log: &mut CoreLog,
@@ -27,7 +27,7 @@ fn turn_through<B: FirstSeat>(
     ensures { HasTurned board.now (core_with machine.old log.old seat) result.0 (core_with machine.new log.new result.1) }
 {
     let left = machine.tick() < log.ticks();
-    // Read so that what every seat keeps is known of this one: a core that is let in has a tick left.
+    // This read proves what holds of every seat: a core that is let in has a tick left.
     let _conductor = seat.conductor();
     prove!(left);
     let mut port = SeatPort::<B>::new(board, machine.core(), seat);
@@ -43,8 +43,8 @@ fn turn_through<B: FirstSeat>(
     (row, back)
 }
 
-/// One core's turn on a board: the machine makes the row, and the board answers where it is on a global resource. The log
-/// has the row then, with the place that the board told. It waits for nobody, takes no memory and never fails.
+/// One core's turn on a board: the machine makes the row, and the board answers a call. The row is
+/// logged with the board's place. It waits for nobody, allocates nothing and never fails.
 pub fn turn_on(
     machine: &mut Machine<'_>,
     log: &mut CoreLog,
@@ -57,8 +57,8 @@ pub fn turn_on(
     turn_through::<Brand>(machine, log, board, seat)
 }
 
-/// Makes the turns of the cores, each on the thread of its core: a way to put work of one's own beside them, between the
-/// admission to a tick and the arrival from it. Whatever else it does, each turn is one of [`turn_on`].
+/// Makes the turns of the cores, each on its core's thread. A caller's own stage can do its own
+/// work in each turn, between admission and arrival; but each turn must be [`turn_on`]'s.
 pub trait Stage {
     /// The core's turn.
     fn turn(

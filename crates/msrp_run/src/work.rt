@@ -1,4 +1,4 @@
-//! What the thread of a core does.
+//! The work of a core's thread, in rounds: look at the board, have the turn, arrive.
 ghost use Rattle.std.specs.Prelude.{◌≡◌, ◌+◌, ◌≢◌, ◌++◌, ◌∷◌};
 ghost use Rattle.msrp_run.specs.declared.work.Progress.TheVariants.{Waits, Turned, Ended};
 ghost use Rattle.msrp_run.specs.Work.{HasWorked, IsAtWork, IsNew, IsInTurn};
@@ -15,14 +15,14 @@ use msrp_merge::CoreLog;
 use msrp_plan::Row;
 use std::sync::Wait;
 
-// So often a `Backoff` spins before it yields.
+// A `Backoff` spins this often before it yields.
 const SPINS: u32 = 7;
 
-// After so many ticks a thread tries again whether waits are short.
+// After this many ticks a thread tries again whether waits are short.
 const PATIENCE: u32 = 256;
 
-// How a thread waits. It spins first, and then yields. Where a wait came to yield, the threads seem to be more than the processors:
-// then the next waits yield at once, for some ticks.
+// How a thread waits: it spins, then yields. After a wait that had to yield, threads probably
+// outnumber processors, so for some ticks the next waits yield at once.
 #[derive(Drop)]
 struct Waiting {
     backoff: Backoff,
@@ -39,13 +39,13 @@ impl Waiting {
         }
     }
 
-    // After a look in vain.
+    // After an unsuccessful look.
     fn wait(&mut self) {
         self.looks = self.looks.saturating_add(1);
         self.backoff.snooze();
     }
 
-    // Before the first look of this tick.
+    // Before the first look in this tick.
     fn begin(&mut self, tick: u32)
         ensures { self.new.looks ≡ 0 }
     {
@@ -57,19 +57,18 @@ impl Waiting {
     }
 }
 
-/// What the first half of a round came to.
+/// The result of the first half of a round.
 #[derive(Clone, Copy, Debug, PartialEq, Eq)]
 pub enum Begun {
-    /// The core was not let in: nothing has changed.
+    /// The core wasn't let in; nothing has changed.
     Waits,
-    /// The core was let into its tick and had its turn, which made this row. It is in the tick until [`finish`].
+    /// The core was let in and had its turn, with this row. It stays in the tick until [`finish`].
     Turn(Row),
-    /// The core was told to stop.
+    /// The core saw the stop.
     Stopped,
 }
 
-/// Begins a round of a core's work: one look at the board, and where the core is let into its tick, its turn by the stage. It
-/// waits for nobody.
+/// Begins a round without waiting: one look at the board and, if let in, the turn by the stage.
 pub fn begin<S: Stage>(
     machine: &mut Machine<'_>,
     log: &mut CoreLog,
@@ -84,7 +83,7 @@ pub fn begin<S: Stage>(
     ensures next { (row : TraceRow) → result.0 ≡ Begun.Turn row → machine.new.tick ≡ machine.old.tick + 1 }
     ensures stopped { result.0 ≡ Begun.Stopped → HasWorked board.now machine.old.plan machine.old.core log.new result.1 × (machine.new ≡ machine.old) × (log.new ≡ log.old) }
 {
-    // Read so that what every seat keeps is known of this one.
+    // This read proves what holds of every seat.
     let _tick = seat.tick();
     match board.look(&mut seat) {
         Look::Wait => (Begun::Waits, seat),
@@ -96,18 +95,18 @@ pub fn begin<S: Stage>(
     }
 }
 
-/// What a round of a core's work came to.
+/// The result of a round.
 #[derive(Clone, Copy, Debug, PartialEq, Eq)]
 pub enum Progress {
-    /// The core was not let in: nothing has changed.
+    /// The core wasn't let in; nothing has changed.
     Waits,
     /// The core was let into its tick, had its turn, and waits for the next.
     Turned,
-    /// The core has arrived from its last tick, or was told to stop.
+    /// The core has arrived from its last tick, or saw the stop.
     Ended,
 }
 
-/// Ends a round: the core arrives from its tick, and waits for the next, unless that was the last.
+/// Ends a round: the core arrives from its tick and, unless that was the last, waits for the next.
 pub fn finish(
     _machine: &Machine<'_>,
     _log: &CoreLog,
@@ -126,7 +125,7 @@ pub fn finish(
     }
 }
 
-/// One round of a core's work: one look at the board, and where the core is let into its tick, its turn by the stage and its
+/// One round: one look at the board and, if the core is let in, its turn by the stage and its
 /// arrival. It waits for nobody.
 pub fn round<S: Stage>(
     machine: &mut Machine<'_>,
@@ -147,9 +146,9 @@ pub fn round<S: Stage>(
     }
 }
 
-/// Makes the turns of a core, tick by tick, a [`round`] after the other: it waits until the board lets the core into its tick,
-/// has the stage make the turn and arrives from the tick, until all ticks are done or the run is called off. A log that comes
-/// back is whole, or it is empty and the core was told to stop.
+/// Makes the turns of a core by repeated [`round`]s: waits until the board lets the core in, has
+/// the stage make the turn, and arrives; until all ticks are done or the run is called off. The
+/// returned log is whole, or empty if the core saw the stop.
 pub fn worker<R: Wait, S: Stage>(
     rt: &R,
     mut machine: Machine<'_>,

@@ -1,4 +1,4 @@
-//! What the threads of a run are given, and what they promise.
+//! What the threads of a run own, and what they promise.
 
 use msrp_board::BoardSeat;
 use msrp_core::Machine;
@@ -7,14 +7,14 @@ use msrp_plan::{CoreId, Plan};
 use std::snapshot::Snapshot;
 use std::thread::PromisedHandle;
 
-/// The parts of a core before its first turn: what its thread is given beside its seat.
+/// The parts of a core before its first turn; its thread gets them, and a seat.
 #[derive(Drop)]
 pub struct CoreParts<'a> {
     pub machine: Machine<'a>,
     pub log: CoreLog,
 }
 
-/// That the thread of a core gives back what its worker does: the core, its seat at the start, and the plan.
+/// The thread of a core returns what its worker does, given the core, its first seat, and the plan.
 #[derive(Drop)]
 pub(crate) struct WorkPromise {
     pub(crate) core: CoreId,
@@ -25,8 +25,8 @@ pub(crate) struct WorkPromise {
 /// The thread of a core.
 pub(crate) type Handle = PromisedHandle<(CoreLog, BoardSeat), WorkPromise>;
 
-/// The threads that were started, the seat with the other books, and whether all were started: then the cores are let in, and
-/// else the run is called off.
+/// The started threads, the seat with the other books, and whether all threads were started: then
+/// the cores are let in, otherwise the run is called off.
 #[derive(Drop)]
 pub(crate) struct Started {
     pub(crate) handles: Vec<Handle>,
@@ -34,7 +34,7 @@ pub(crate) struct Started {
     pub(crate) all: bool,
 }
 
-/// What the threads left that were started: their logs, the seat with all books, and whether all were started.
+/// What the started threads left: their logs, the seat with all books, and whether all started.
 #[derive(Drop)]
 pub(crate) struct Ended {
     pub(crate) logs: Vec<CoreLog>,

@@ -1,4 +1,4 @@
--- What a clause sees of the cores of a plan, and what their fields keep.
+-- What a clause sees of the cores of a plan, and what their fields hold.
 use Rattle.msrp_sim.specs.Cores.{CoresModel, AreCores}
 use Rattle.msrp_sim.specs.declared.cores.Cores.TheInside.{Inside}
 

@@ -1,4 +1,4 @@
--- What a clause sees of a port that serves requests in their order, and what its fields keep.
+-- What a clause sees of a port that serves requests in their order, and what its fields hold.
 use Rattle.msrp_plan.specs.Common.{length, vec_capacity, All, most_resources, most_rows}
 use Rattle.std.specs.Prelude.{◌<◌, ◌≤◌, ◌+◌, sum_by}
 use Rattle.msrp_core.specs.Ports.{claim_in}

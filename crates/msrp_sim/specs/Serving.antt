@@ -1,4 +1,4 @@
--- How the tickets of the queues stand for the locks of the resources, and what one call more does to them.
+-- How the tickets represent the locks of the resources, and what one more call does to them.
 use Rattle.std.specs.Prelude.{◌==◌, ◌≡◌, ◌≤◌, ◌+◌, ◌-◌}
 use Rattle.msrp_plan.specs.Common.{ℕ, List, Bool, false, slice_index_or, ⊤, claim_with, IsDueCall, FifoLock, Answers, lock_after}
 use Rattle.msrp_plan.specs.declared.units.Call.{Call}
@@ -9,7 +9,7 @@ use Rattle.msrp_sim.specs.Served.{IsClaim, IsTicketed}
 use Rattle.msrp_sim.specs.declared.tickets.Queues.{Queues}
 use Rattle.msrp_sim.specs.declared.tickets.Tickets.{Tickets}
 
--- the tickets of a resource, none drawn of one that isn't there
+-- the tickets of a resource; none drawn if there is no such resource
 abbrev pub tickets_in : List Tickets → ℕ → Tickets
 tickets_in queues g = slice_index_or queues g (record { next = 0; serving = 0 })
 
@@ -20,24 +20,25 @@ queue_of q g = tickets_in q.queues g
 abbrev pub ticket_of : Queues → ℕ → ℕ
 ticket_of q c = slice_index_or q.tickets c 0
 
--- how many have drawn one that isn't served yet
+-- the number of drawn tickets that aren't served yet
 abbrev pub waiting : Queues → ℕ → ℕ
 waiting q g = (queue_of q g).next - (queue_of q g).serving
 
--- the core's newest one is served
+-- the core's newest ticket is served
 abbrev pub is_served : Queues → ℕ → ℕ → Bool
 is_served q c g = ticket_of q c == (queue_of q g).serving
 
--- no more tickets were drawn of a resource than this, and no more served
+-- at most this many tickets of each resource were drawn, and served
 abbrev pub AreDrawn : Queues → ℕ → Type 0
 AreDrawn q n = (g : ℕ) → ((queue_of q g).next ≤ n) × ((queue_of q g).serving ≤ n)
 
--- each core holds or awaits what its claim and the locks say, and the tickets of each resource are those of its lock
+-- each core holds or awaits what its claim and the locks say, and tickets are the locks'
 pub record IsServing (locks : ℕ → FifoLock) (claims : ℕ → Phase) (q : Queues) : Type 0 where
   pub stances : (c : ℕ) → IsClaim locks c (claims c)
   pub tickets : (g : ℕ) → IsTicketed (locks g).queue (queue_of q g).next (queue_of q g).serving (ticket_of q)
 
--- the call is answered as the tickets stand: so many have drawn one that isn't served yet, and the core's own is served
+-- the call has the answer of the tickets: the number of drawn tickets not served yet; or whether
+-- the core's own is served
 abbrev pub IsTold : Queues → ℕ → ℕ → Call → Type 0
 IsTold q c g (Ask ahead) = ahead ≡ waiting q g
 IsTold q c g (Poll granted) = granted ≡ is_served q c g
@@ -50,8 +51,8 @@ pub record MovesBy (e : PortCall) (locks after : ℕ → FifoLock) (claims newer
   pub claim : newer e.core.0 ≡ claim_with (claims e.core.0) e.res e.call
   pub other_claims : (c : ℕ) → (e.core.0 == c) ≡ false → newer c ≡ claims c
 
--- the queues after one call more: whatever locks they stood for, they stand for those that a call leaves which is made in
--- its turn and answered as its lock answers
+-- the queues after one more call: for all locks that they represented, they represent the locks
+-- after an allowed call with the lock's answer
 pub record Notes (e : PortCall) (old new : Queues) : Type 0 where
   pub serving : (locks after : ℕ → FifoLock) (claims newer : ℕ → Phase) → IsServing locks claims old → MovesBy e locks after claims newer → Answers (locks e.res.0) e.core.0 e.call → IsDueCall (claims e.core.0) e.res e.call → IsServing after newer new
   pub drawn : (n : ℕ) → AreDrawn old n → AreDrawn new (n + 1)

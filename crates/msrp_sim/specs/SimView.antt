@@ -1,4 +1,4 @@
--- What a clause sees of a simulation, and what its fields keep.
+-- What a clause sees of a simulation, and what its fields hold.
 use Rattle.std.specs.Prelude.{◌<◌, ◌≤◌, ◌+◌, ◌*◌}
 use Rattle.msrp_plan.specs.Common.{List, IsOrder, IsPlan}
 use Rattle.msrp_plan.specs.declared.rows.Row.{Row}

@@ -4,21 +4,21 @@ use Rattle.msrp_plan.specs.Common.{ℕ, List, true, take, PlanModel, carries_ahe
 use Rattle.msrp_plan.specs.declared.rows.Row.{Row}
 use Rattle.msrp_sim.specs.Cores.{CoresModel, StandFor}
 
--- the plan, the core of each turn, how many turns were had, and the cores
+-- the plan, the core of each turn, the number of turns so far, and the cores
 pub record SimModel : Type 0 where
   pub plan : PlanModel
   pub order : List ℕ
   pub turn : ℕ
   pub cores : CoresModel
 
--- the simulation made these rows, in its order: each of them was the next legal one of a core that was due
+-- the simulation made these rows, in its order: each was the next legal one of its core
 pub record HasMade (sim : SimModel) (rows : List Row) : Type 0 where
   pub order : core_order rows ≡ take sim.turn sim.order
   pub plan : sim.cores.plan ≡ sim.plan
   pub stands : StandFor sim.cores rows
   pub carries : carries_ahead rows ≡ true
 
--- a whole run in this order, and each queue row carries how many stand ahead
+-- a whole run in this order, and each queue row carries its ahead
 pub record IsRunIn (plan : PlanModel) (order : List ℕ) (rows : List Row) : Type 0 where
   pub run : IsRun plan rows
   pub turns : core_order rows ≡ order

@@ -27,7 +27,7 @@ abbrev pub as_calls : Option PortCall → List PortCall
 as_calls None = []
 as_calls (Some e) = e ∷ []
 
--- the core may make one call more
+-- the core may make one more call
 abbrev pub port_after : List PortCall → CoreId → ℕ → Option PortCall → PortModel
 port_after before core resources call = record { calls = before ++ as_calls call; rooms = λ c. (if (c == core.0) && is_none call then 1 else 0); resources = resources }
 
@@ -37,12 +37,12 @@ pub record TurnPortModel : Type 0 where
   pub resources : ℕ
   pub call : Option PortCall
 
--- a call that is due after the others, and answered as the tickets stand
+-- a call allowed after the others, and answered from the tickets
 pub record IsCallAfter (before : List PortCall) (q : Queues) (e : PortCall) : Type 0 where
   pub turn : IsDueCall (claim_in e.core.0 before) e.res e.call
   pub told : IsTold q e.core.0 e.res.0 e.call
 
--- the queues are those from before the turn, and so is the call of it
+-- the queues are those before the turn, and so is the turn's call
 pub record IsTurnPort (before : List PortCall) (first queues : Queues) (call : Option PortCall) : Type 0 where
   pub same : queues ≡ first
   pub made : ForSome call (IsCallAfter before first)
@@ -51,7 +51,7 @@ pub record IsTurnPort (before : List PortCall) (first queues : Queues) (call : O
 abbrev pub no_queues : Queues
 no_queues = record { queues = []; tickets = [] }
 
--- the call of a turn: the row is the one that it makes, and it is due and answered as the tickets stand
+-- the call of a turn, which makes the row, is allowed and answered from the tickets
 pub record MakesCallOf (q : Queues) (old new : MachineModel) (r : Row) (made : Option PortCall) : Type 0 where
   pub res : ResId
   pub resource : r.res ≡ Some res
@@ -82,12 +82,12 @@ is_granted q c None kind = false
 is_granted q c (Some g) Spin = is_served q c g.0
 is_granted q c (Some g) kind = false
 
--- the row that is known of a core, and none where it is a poll that the queues grant now
+-- the known row of a core, or none if it is a poll that the queues grant now
 abbrev pub unless_granted : Queues → ℕ → Option Row → Option Row
 unless_granted q c None = None
 unless_granted q c (Some r) = if is_granted q c r.res r.kind then None else Some r
 
--- the machine's turn made the row, and no call but a poll in vain
+-- the machine's turn made the row, and no call but a poll that isn't granted
 pub record HasRepeated (q : Queues) (old new : MachineModel) (r : Row) : Type 0 where
   pub call : Option PortCall
   pub turned : HasTurned q old new r call

@@ -1,4 +1,4 @@
-//! All cores of a plan, and the queues of its global resources.
+//! All cores of a plan over first-in-first-out queues: one turn of any core, in any order.
 ghost use Rattle.std.specs.Prelude.{◌≡◌, ◌<◌};
 ghost use Rattle.msrp_plan.specs.Common.{[], ℕ, List, IfOk, IfNone, IfSome, None, Some, length, slice_get, ForSome, most_cores, most_resources, most_rows, log_of, IsPlan};
 ghost use Rattle.std.specs.Option.{option_map};
@@ -17,8 +17,8 @@ use msrp_plan::{CoreId, Memory, Plan, Row};
 use std::alloc::Global;
 use std::marker::Model;
 
-/// The machine of each core of a plan, and the queues of its global resources: after the start of a legal run it tells
-/// the one row that each core may make next. It keeps no list of the calls.
+/// The machine of each core of a plan, and the queues of its global resources: after the start of a
+/// legal run, the one row that each core may make next. It stores no list of calls.
 #[derive(Drop)]
 pub struct Cores<'a> {
     plan: &'a Plan,
@@ -38,7 +38,7 @@ impl<'a> Model for Cores<'a> {
     ghost invariant = { AreCoresView };
 }
 
-// The queues after a turn that made this call, if it made one.
+// The queues after a turn with this call, if it made one.
 #[inline(always)]
 fn note_turn(queues: &mut Queues, call: Option<PortCall>)
     requires core { ForSome call (λ e. e.core.0 < most_cores) }
@@ -70,8 +70,8 @@ fn machines_of<'a>(
 }
 
 impl<'a> Cores<'a> {
-    /// The cores before the first tick. All memory that they ever need is taken here: it is [`Memory`] only where that
-    /// was refused. The levels are those of the plan.
+    /// The cores before the first tick, with all the memory that they will ever need; [`Memory`]
+    /// only if memory runs out. The levels are the plan's.
     pub fn with_room(
         alloc: Global,
         plan: &'a Plan,
@@ -83,7 +83,7 @@ impl<'a> Cores<'a> {
         ensures stand { IfOk result (λ cores. StandFor cores []) }
         ensures known { IfOk result (λ cores. (c : ℕ) → known_row cores c ≡ None) }
     {
-        // Read so that the plan is known to be an accepted one.
+        // This read proves that the plan is an accepted one.
         let _accepted = plan.cores();
         Ok(Cores {
             plan,
@@ -92,7 +92,7 @@ impl<'a> Cores<'a> {
         })
     }
 
-    /// How many turns the core has had.
+    /// The number of turns that the core has had.
     pub fn tick(&self, core: CoreId) -> u32
         requires { core.0 < self.now.plan.cores }
         ensures { option_map (λ x. x.tick) (slice_get self.now.machines core.0) ≡ Some result }
@@ -100,7 +100,7 @@ impl<'a> Cores<'a> {
         self.machines[core.0 as usize].tick()
     }
 
-    /// What decides who has the core's next turn.
+    /// What decides which job of the core runs next.
     #[inline(always)]
     pub fn state(&self, core: CoreId) -> CoreState
         requires { core.0 < self.now.plan.cores }
@@ -128,9 +128,9 @@ impl<'a> Cores<'a> {
         repeat_by(&self.queues, machine)
     }
 
-    /// The core's next turn, chosen anew. Whatever rows the cores stand for, the row is the next one of that core after them, and
-    /// the cores then stand for them and this row, with its ahead or without. Where the row is known from the last one,
-    /// [`Cores::repeat`] makes it by a shorter way.
+    /// The core's next turn, chosen. After any rows that the cores stand for, the row is that
+    /// core's next one, and the cores then stand for those rows and this one, with or without its
+    /// ahead. [`Cores::repeat`] is a shorter way to a known row.
     #[inline(always)]
     pub fn turn(&mut self, core: CoreId) -> Row
         requires core { core.0 < self.old.plan.cores }

@@ -30,7 +30,7 @@ impl Model for FifoPort {
     ghost invariant = { IsFifoView };
 }
 
-// Writes a call down, which takes one of its core's room.
+// Records a call, which uses one of its core's room.
 fn write(calls: &mut Vec<PortCall>, rooms: &mut [u32], call: PortCall)
     requires core { call.core.0 < length rooms.old }
     requires left { 0 < slice_index_or rooms.old call.core.0 0 }
@@ -43,7 +43,7 @@ fn write(calls: &mut Vec<PortCall>, rooms: &mut [u32], call: PortCall)
     calls.push_reserved(call);
 }
 
-// So many calls for each of the first cores, and none for any other.
+// This many calls for each of the first cores, and none for any other.
 fn rooms_of(cores: u32, ticks: u32) -> [u32; MOST_CORES as usize]
     requires { cores ≤ 8 }
     ensures rooms { (c : ℕ) → slice_index_or result c 0 ≡ cond (nat_lt c cores) ticks 0 }
@@ -63,8 +63,8 @@ impl FifoPort {
     ghost use Rattle.msrp_core.specs.Ports.{Adds, asked, claim_in};
     ghost use Rattle.msrp_sim.specs.Served.{AreFifo, IsFresh, as_port, lock_after_calls};
 
-    /// A port of which nothing was asked yet, where each core of the plan may make a call in each tick. All memory
-    /// that it ever needs is taken here: it is [`Memory`] only where that was refused.
+    /// A port without a call, where each core of the plan may make a call in each tick, with all
+    /// the memory that it will ever need; [`Memory`] only if memory runs out.
     pub fn with_room(alloc: Global, plan: &Plan) -> Result<FifoPort, Memory>
         ensures { IfOk result (IsFresh plan.now) }
     {
@@ -77,7 +77,7 @@ impl FifoPort {
         })
     }
 
-    /// The calls so far: those of each resource are answered as the one-thread lock answers them.
+    /// The calls so far; each resource's are answered as the one-thread lock answers them.
     pub fn calls(&self) -> &[PortCall]
         ensures value { result.now ≡ self.now.calls }
         ensures fifo { AreFifo result.now }
@@ -92,14 +92,14 @@ impl FifoPort {
         self.queues.reply(res)
     }
 
-    /// Whether a poll of the core, which awaits the resource, would be granted now.
+    /// Whether a poll of the core, which waits for the resource, would be granted now.
     pub fn grants(&self, core: CoreId, res: ResId) -> bool
         ensures { claim_in core.0 self.now.calls ≡ Phase.Queued res → Answers (lock_after_calls self.now.calls res.0) core.0 (Call.Poll result) }
     {
         self.queues.grants(core, res)
     }
 
-    // A call that is due, and answered as the lock answers it.
+    // An allowed call, answered as the lock answers it.
     fn serve(&mut self, call: PortCall)
         requires room { 0 < (as_port self.old).rooms call.core.0 }
         requires resource { call.res.0 < self.old.resources }
@@ -132,7 +132,7 @@ impl Port for FifoPort {
     }
 
     fn leave(&mut self, core: CoreId, res: ResId) {
-        // Read so that what the calls so far say of the core is known to be what the locks do.
+        // This read proves that what the calls say of the core is what the locks do.
         let _resources = self.resources;
         let call = Call::Leave;
         self.serve(PortCall { core, res, call });

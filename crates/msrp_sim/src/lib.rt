@@ -1,8 +1,8 @@
 //! All cores of a plan on one thread, in any order.
 //!
-//! [`simulate`] makes the whole trace of a plan in an [`Order`] of turns, and a [`Simulation`] makes it row by row. [`Cores`] gives the
-//! next row of whichever core is asked for, and a [`FifoPort`] answers the calls on each resource as a first-in-first-out lock.
-//! [`worked`] has examples of orders.
+//! [`simulate`] makes the whole trace of a plan in an [`Order`] of turns, and a [`Simulation`]
+//! makes it row by row. [`Cores`] gives the next row of any core, and a [`FifoPort`] answers the
+//! calls of each resource as a first-in-first-out lock. [`worked`] has examples of orders.
 #![tactic(auto)]
 
 mod cores;

@@ -1,4 +1,4 @@
-//! The orders in which the cores of a plan have their turns.
+//! The orders in which the cores of a plan have their turns (POLICY rule 10: any order is legal).
 ghost use Rattle.std.specs.Prelude.{◌≡◌, ◌↔◌, ◌<◌, ◌+◌, ◌*◌, ◌^◌};
 ghost use Rattle.msrp_plan.specs.Common.{ℕ, true, slice_index_or, length, PlanModel, IsOrder, ascending};
 ghost use Rattle.msrp_sim.specs.Orders.{cores_of, falling, rotating};
@@ -6,17 +6,16 @@ ghost use Rattle.msrp_sim.specs.Orders.{cores_of, falling, rotating};
 use msrp_plan::limits::MOST_CORES;
 use msrp_plan::{CoreId, Plan};
 
-/// Where a turn stands: its tick, and its place among the turns of that tick, both counted from 0.
+/// The position of a turn: its tick, and its index among the turns of that tick, both from 0.
 #[derive(Clone, Copy, Debug)]
 pub struct TickPlace {
-    /// The tick.
     pub tick: u32,
-    /// The place in it.
+    /// The index in it.
     pub place: u32,
 }
 
 impl TickPlace {
-    /// Goes on to the next turn, if each tick has so many.
+    /// Moves to the next turn, if each tick has `cores` turns.
     #[inline(always)]
     pub fn advance(&mut self, cores: u32)
         requires place { self.old.place < cores }
@@ -32,27 +31,27 @@ impl TickPlace {
     }
 }
 
-/// An order of turns: in each tick each core has one. A given list may be no such order, as [`Order::is_of`] tells.
+/// An order of turns, one of each core in each tick; for a given list see [`Order::is_of`].
 #[derive(Debug, Drop)]
 pub enum Order {
-    /// In each tick the cores rising.
+    /// Rising cores in each tick.
     Asc,
-    /// In each tick the cores falling.
+    /// Falling cores in each tick.
     Desc,
-    /// In tick t the cores from t mod m on, of m cores, going round upwards.
+    /// In tick t, of m cores, from core t mod m upwards, then round.
     Rot,
     /// The number of each turn's core, tick after tick.
     Given(Vec<u32>),
 }
 
-/// Rising, falling and going round, each core has one turn in each tick.
+/// In the three built-in orders each core has one turn in each tick.
 pub fn orders_of_turns()
     ensures asc { (plan : PlanModel) → IsOrder plan (ascending plan.cores plan.ticks) }
     ensures desc { (plan : PlanModel) → IsOrder plan (falling plan) }
     ensures rot { (plan : PlanModel) → IsOrder plan (rotating plan) }
 {}
 
-// Whether each of these cores, one by one, has one turn in each tick.
+// Whether each of these cores has one turn in each tick.
 fn are_turns(plan: &Plan, cores: &[u32]) -> bool
     ensures { (result ≡ true) ↔ IsOrder plan.now cores.now }
 {
@@ -71,7 +70,7 @@ fn are_turns(plan: &Plan, cores: &[u32]) -> bool
     true
 }
 
-// What a list has for the turn that stands here, of so many in each tick.
+// The list's core for the turn at this position.
 fn listed(list: &[u32], cores: u32, at: &TickPlace) -> u32
     requires { at.now.tick * cores + at.now.place < length list.now }
     ensures { result ≡ slice_index_or list.now (at.now.tick * cores + at.now.place) 0 }
@@ -80,7 +79,7 @@ fn listed(list: &[u32], cores: u32, at: &TickPlace) -> u32
 }
 
 impl Order {
-    /// Whether the order gives each core of the plan one turn in each tick, as all do that aren't given by a list.
+    /// Whether the order gives each core of the plan one turn in each tick; true of all but lists.
     pub fn is_of(&self, plan: &Plan) -> bool
         ensures { (result ≡ true) ↔ IsOrder plan.now (cores_of self.now plan.now) }
     {
@@ -92,7 +91,7 @@ impl Order {
         }
     }
 
-    /// The core that has this turn, counted from 0.
+    /// The core of a turn; turns are counted from 0.
     pub fn core(&self, plan: &Plan, turn: u32) -> CoreId
         requires turn { turn < plan.now.cores * plan.now.ticks }
         requires order { IsOrder plan.now (cores_of self.now plan.now) }
@@ -106,7 +105,7 @@ impl Order {
         self.core_at(plan, &at)
     }
 
-    // The core that has the turn which stands here, in whatever order. Nothing is divided where the cores rise or fall.
+    // The core of the turn at this position, in any order; rising and falling need no division.
     #[inline(never)]
     fn core_in_order(&self, plan: &Plan, at: &TickPlace) -> CoreId
         requires place { at.now.place < plan.now.cores }
@@ -123,7 +122,7 @@ impl Order {
         })
     }
 
-    /// The core that has the turn which stands here: its place, where the cores rise.
+    /// The core of the turn at this position; for rising cores its index in the tick.
     #[inline(always)]
     pub(crate) fn core_at(&self, plan: &Plan, at: &TickPlace) -> CoreId
         requires place { at.now.place < plan.now.cores }

@@ -1,4 +1,4 @@
-//! A run on one thread, turn by turn.
+//! A run on one thread, turn by turn: who needs no whole trace in memory takes it from here.
 ghost use Rattle.std.specs.Prelude.{◌≡◌, ◌<◌, ◌≤◌, ◌+◌, ◌*◌, ◌++◌, ◌∷◌, ◌↔◌};
 ghost use Rattle.msrp_plan.specs.Common.{[], ℕ, List, Some, None, Err, IfOk, IfNone, IfSome, IsOrder};
 ghost use Rattle.std.specs.Vec.{vec_capacity};
@@ -15,12 +15,12 @@ use std::alloc::{AllocError, Global};
 use std::marker::Model;
 use thiserror::Error;
 
-/// A run of a plan on one thread: its cores have their turns in an order.
+/// A run of a plan on one thread, in an order of turns.
 #[derive(Drop)]
 pub struct Simulation<'a> {
     plan: &'a Plan,
     order: &'a Order,
-    // Where the next turn stands.
+    // The position of the next turn.
     at: TickPlace,
     cores: Cores<'a>,
 }
@@ -38,8 +38,8 @@ impl<'a> Model for Simulation<'a> {
 }
 
 impl<'a> Simulation<'a> {
-    /// A simulation before its first turn. All memory that it ever needs is taken here: it is [`Memory`] only where
-    /// that was refused. The levels are those of the plan, and the order is one of it, as [`Order::is_of`] tells.
+    /// A simulation before its first turn, with all the memory that it will ever need; [`Memory`]
+    /// only if it runs out. The levels are the plan's, and so is the order ([`Order::is_of`]).
     pub fn with_room(
         alloc: Global,
         plan: &'a Plan,
@@ -62,8 +62,7 @@ impl<'a> Simulation<'a> {
         })
     }
 
-    /// The next turn, where it is known from the core's last one: its row is that one in the next tick. Elsewhere it is none,
-    /// and nothing changes.
+    /// The next turn if it repeats its core's last row. Otherwise none, and nothing changes.
     #[inline(always)]
     pub fn repeat(&mut self) -> Option<Row>
         requires { self.old.turn < self.old.plan.cores * self.old.plan.ticks }
@@ -81,8 +80,8 @@ impl<'a> Simulation<'a> {
         Some(row)
     }
 
-    /// The next turn: its core makes a row, and a global resource answers at once. It never fails, and takes no
-    /// memory. Whatever rows the simulation has made, this is the next of them.
+    /// The next turn: its core makes a row, and a resource answers at once. Never fails or
+    /// allocates.
     #[inline(always)]
     pub fn turn(&mut self) -> Row
         requires { self.old.turn < self.old.plan.cores * self.old.plan.ticks }
@@ -101,10 +100,10 @@ impl<'a> Simulation<'a> {
 /// Why a plan was not simulated.
 #[derive(Clone, Copy, Debug, Error, PartialEq, Eq)]
 pub enum SimError {
-    /// The list that gives the order doesn't name each core of the plan once in each tick. This is judged before memory.
+    /// The given list doesn't name each core once in each tick. Checked before any allocation.
     #[error("S1: the list is no order of the cores")]
     S1,
-    /// Memory was refused.
+    /// Out of memory.
     #[error("S2: memory was refused")]
     S2,
 }
@@ -129,7 +128,7 @@ impl From<AllocError> for SimError {
     }
 }
 
-// All turns of a simulation that had none, one row each.
+// All turns of a new simulation, one row each.
 fn turn_all(simulation: &mut Simulation<'_>, size: u32, rows: &mut Vec<Row>)
     requires turn { simulation.old.turn ≡ 0 }
     requires size { size ≡ simulation.old.plan.cores * simulation.old.plan.ticks }
@@ -146,7 +145,7 @@ fn turn_all(simulation: &mut Simulation<'_>, size: u32, rows: &mut Vec<Row>)
     }
 }
 
-/// The run of a plan in which the cores have their turns in this order, whole. There is one such run.
+/// The plan's whole run in this order of turns. There is exactly one.
 pub fn simulate(alloc: Global, plan: &Plan, order: &Order) -> Result<Trace, SimError>
     ensures given { (result ≡ Err SimError.S1) ↔ ¬ IsOrder plan.now (cores_of order.now plan.now) }
     ensures run { IfOk result (λ trace. IsRunIn plan.now (cores_of order.now plan.now) trace.rows.items) }

@@ -1,4 +1,4 @@
-//! Cores that are served in the order of their requests, by tickets.
+//! First-in-first-out queues as tickets: two numbers a resource and one a core, no lists.
 ghost use Rattle.std.specs.Prelude.{◌≡◌, ◌<◌};
 ghost use Rattle.msrp_plan.specs.Common.{ℕ, slice_index_or, free_lock, most_cores, most_resources, most_rows};
 ghost use Rattle.msrp_core.specs.Ports.{asked, HasAhead};
@@ -8,15 +8,15 @@ use msrp_core::{PortCall, Reply};
 use msrp_plan::limits::{MOST_CORES, MOST_RESOURCES};
 use msrp_plan::{Call, CoreId, Phase, ResId};
 
-// The tickets of a resource: a request draws the next one, and the core with the one that is served holds the
-// resource, or does so at its next poll. A release serves the one after.
+// The tickets of a resource: a request draws the next one. The core with the served ticket holds
+// the resource, or will at its next poll. A release serves the next ticket.
 #[derive(Clone, Copy)]
 struct Tickets {
     next: u32,
     serving: u32,
 }
 
-// The queues of all resources, without a list of who stands in them.
+// The queues of all resources, without lists of the queued cores.
 #[derive(Clone, Copy)]
 pub struct Queues {
     queues: [Tickets; MOST_RESOURCES],
@@ -50,7 +50,7 @@ impl Queues {
         }
     }
 
-    // The tickets of a resource, none drawn of one that isn't there.
+    // The tickets of a resource; none drawn if there is no such resource.
     fn queue(&self, res: ResId) -> Tickets
         ensures { result ≡ queue_of self.now res.0 }
     {
@@ -63,7 +63,7 @@ impl Queues {
         }
     }
 
-    // The answer that a request of the resource gets now.
+    // The answer to a request of the resource now.
     pub fn reply(&self, res: ResId) -> Reply
         ensures told { (c : ℕ) → IsTold self.now c res.0 (asked result) }
         ensures ahead { HasAhead result }
@@ -75,7 +75,7 @@ impl Queues {
         }
     }
 
-    // Whether a poll of the core, which awaits the resource, is granted now.
+    // Whether a poll of the core, which waits for the resource, is granted now.
     pub fn grants(&self, core: CoreId, res: ResId) -> bool
         ensures { IsTold self.now core.0 res.0 (Call.Poll result) }
     {
@@ -83,7 +83,7 @@ impl Queues {
         ticket == self.queue(res).serving
     }
 
-    // One call more, with its answer.
+    // Adds a call, with its answer.
     pub fn note(&mut self, call: PortCall)
         requires core { call.core.0 < most_cores }
         requires resource { call.res.0 < most_resources }

@@ -1,4 +1,4 @@
-//! One turn of a machine over the queues, which it only reads: its call is handed on.
+//! One turn of a machine over queues that it only reads; the caller applies the turn's call.
 ghost use Rattle.std.specs.Prelude.{◌≡◌, ◌<◌};
 ghost use Rattle.msrp_plan.specs.Common.{IfNone, IfSome, length};
 ghost use Rattle.std.specs.Option.{is_some};
@@ -11,7 +11,7 @@ use msrp_core::{Machine, Port, PortCall, Reply};
 use msrp_plan::{Call, CoreId, ResId, Row};
 use std::marker::{Brand, Model, PhantomData};
 
-// Names what was called before the turn, and the queues that stand then.
+// Names the calls before the turn, and the queues at that time.
 trait Before {
     ghost use Rattle.std.specs.Prelude.{List};
     ghost use Rattle.msrp_core.specs.declared.port.PortCall.{PortCall as CoreCall};
@@ -31,7 +31,7 @@ impl Before for Brand {
     ghost queues = { no_queues };
 }
 
-// A port for one turn of one core: it answers as the queues stand.
+// A port for one turn of one core: it answers from the queues.
 #[derive(Drop)]
 struct TurnPort<'a, B: Before> {
     queues: &'a Queues,
@@ -114,7 +114,7 @@ fn turn_over<B: Before>(queues: &Queues, resources: u32, machine: &mut Machine<'
     }
 }
 
-// The machine's turn, where its last one was a poll in vain and so is this one.
+// The machine's turn if its last one was a poll that wasn't granted and this one is too.
 #[inline(always)]
 fn spin_by(queues: &Queues, machine: &mut Machine<'_>) -> Option<Row>
     requires { machine.old.tick < machine.old.plan.ticks }
@@ -130,7 +130,7 @@ fn spin_by(queues: &Queues, machine: &mut Machine<'_>) -> Option<Row>
     }
 }
 
-// The machine's turn, where its row is known from its last one. That needs no port.
+// The machine's turn if it repeats the last row. Needs no port.
 #[inline(always)]
 pub(crate) fn repeat_by(queues: &Queues, machine: &mut Machine<'_>) -> Option<Row>
     requires { machine.old.tick < machine.old.plan.ticks }
@@ -144,7 +144,7 @@ pub(crate) fn repeat_by(queues: &Queues, machine: &mut Machine<'_>) -> Option<Ro
     }
 }
 
-// The machine's turn, where a global resource answers as its queue stands.
+// The machine's turn; a global resource answers from its queue.
 #[inline(always)]
 pub(crate) fn turn_by(queues: &Queues, resources: u32, machine: &mut Machine<'_>) -> Turned
     requires tick { machine.old.tick < machine.old.plan.ticks }

@@ -5,8 +5,7 @@ use Rattle.msrp_plan.specs.declared.ids.JobId.{JobId}
 use Rattle.msrp_plan.specs.Choice.{first_unfinished}
 use Rattle.msrp_plan.specs.Ceiling.{ceiling_with}
 
--- a job that is started and not finished, and the resources that it holds, the innermost first: a global one counts
--- from its request on
+-- a started, unfinished job, and its resources, the innermost first, global ones once requested
 pub record StartedJob : Type 0 where
   pub job : JobId
   pub held : List ℕ
@@ -32,11 +31,11 @@ is_among started j = list_any (λ s. same_job j s.job) started
 abbrev pub top : StackModel → Option JobId
 top stack = first_unfinished stack.plan stack.core (is_among stack.started) (λ j. false)
 
--- the current ceiling of the core, as the started jobs hold resources
+-- the current ceiling of the core, from what the started jobs hold
 abbrev pub current_ceiling : StackModel → ℕ
 current_ceiling stack = ceiling_with stack.plan stack.core false (is_held stack.started)
 
--- the newest of the started jobs
+-- the newest started job
 abbrev pub newest : List StartedJob → Option JobId
 newest [] = None
 newest (s ∷ below) = Some s.job
@@ -51,7 +50,7 @@ pub record CanStart (stack : StackModel) (j : JobId) : Type 0 where
   pub known : Contains (jobs_on stack.plan stack.core) j
   pub first : ComesFirst stack.plan stack.started j
 
--- the newest job, if there is one, holds fewer than so many resources, and not this one
+-- the newest job, if there is one, holds fewer than this many resources, and not this one
 abbrev pub HasRoom : List StartedJob → ℕ → ℕ → Type 0
 HasRoom [] most g = ⊥
 HasRoom (s ∷ below) most g = (length s.held < most) × (holds g s ≡ false)
@@ -73,7 +72,7 @@ abbrev pub without_first : List ℕ → List ℕ
 without_first [] = []
 without_first (g ∷ held) = held
 
--- the newest job without the innermost that it holds
+-- the newest job without its innermost resource
 abbrev pub without_held : List StartedJob → List StartedJob
 without_held [] = []
 without_held (s ∷ below) = record s { held = without_first s.held } ∷ below

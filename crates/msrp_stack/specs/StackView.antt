@@ -1,4 +1,4 @@
--- What a clause sees of a stack, and what its fields keep.
+-- What a clause sees of a stack, and what its fields hold.
 use Rattle.std.specs.Prelude.{◌∷◌, ◌≡◌, ◌<◌, ◌≤◌}
 use Rattle.msrp_plan.specs.Common.{ℕ, List, [], map, reverse, length, slice_index_or, vec_capacity, ⊤, AllByRecursion, Contains, PlanModel, jobs_on, IsPlan, most_resources}
 use Rattle.msrp_stack.specs.Stack.{StartedJob, StackModel, ComesFirst}
@@ -13,13 +13,13 @@ started_view s = record { job = s.job; held = map (λ h. h.res.0) (reverse s.hel
 abbrev pub started_of : List Started → List StartedJob
 started_of items = map started_view (reverse items)
 
--- each started job comes before those that were started earlier
+-- each started job comes before those started earlier
 abbrev pub IsFalling : PlanModel → List StartedJob → Type 0
 IsFalling plan [] = ⊤
 IsFalling plan (s ∷ below) = ComesFirst plan below s.job × IsFalling plan below
 
--- the ceilings are those of the plan's resources at the core, the current one is that of what is held, and the started jobs are
--- jobs of the core in falling order of key, for each of which there is room
+-- the ceilings are those of the plan's resources at the core, the current one follows from what is
+-- held, and the started jobs are jobs of the core in falling order of key, with room for each
 pub record IsStack (plan : PlanModel) (core : ℕ) (ceilings : List ℕ) (items : List Started) (room current : ℕ) : Type 0 where
   pub accepted : IsPlan plan
   pub size : length ceilings ≡ most_resources

@@ -1,4 +1,4 @@
-//! A stack of started jobs, and its calls.
+//! The started jobs of a core, whose current ceiling each lock raises and each unlock restores.
 ghost use Rattle.std.specs.Prelude.{◌≡◌, ◌<◌, ◌∷◌, ◌≤◌};
 ghost use Rattle.msrp_plan.specs.Common.{[], length, slice_index_or, true, false, ℕ, IfOk, vec_capacity, jobs_on, is_global, IsPlan, most_resources};
 ghost use Rattle.msrp_plan.specs.Limits.{most_held};
@@ -12,14 +12,14 @@ use msrp_plan::{CoreId, JobId, Memory, Plan, ResId};
 use std::alloc::Global;
 use std::marker::Model;
 
-// A resource that is held, and the core's ceiling from before.
+// A held resource, and the core's ceiling before it.
 #[derive(Clone, Copy, Debug)]
 struct Held {
     res: ResId,
     before: u32,
 }
 
-// What an empty place of a list holds.
+// What an empty place of a list has.
 impl Default for Held {
     fn default() -> Held {
         Held {
@@ -29,7 +29,7 @@ impl Default for Held {
     }
 }
 
-// A job that is started and not finished, and what it holds, the innermost last.
+// A started, unfinished job, and what it holds, the innermost last.
 #[derive(Debug, Drop)]
 struct Started {
     job: JobId,
@@ -38,9 +38,9 @@ struct Started {
 
 /// The started jobs of one core, and its current ceiling.
 ///
-/// A global resource counts as held from its request on, since the core stands at its highest level from then to the
-/// release (Gai, Lipari and Di Natale 2001). After [`CeilingStack::with_room`], which takes all memory, all calls take constant
-/// time and no memory.
+/// A global resource counts as held from its request on: until the release the core's ceiling is
+/// its highest level (Gai, Lipari and Di Natale 2001; POLICY rule 7). [`CeilingStack::with_room`]
+/// takes all memory; every other call needs none and takes constant time.
 #[derive(Drop)]
 pub struct CeilingStack<'a> {
     plan: &'a Plan,
@@ -62,7 +62,6 @@ impl<'a> Model for CeilingStack<'a> {
     ghost invariant = { IsStackView };
 }
 
-// The ceilings of a plan's resources at a core, by their numbers.
 fn ceilings_at(plan: &Plan, levels: &Levels<'_>, core: CoreId) -> [u32; MOST_RESOURCES]
     requires levels { levels.now ≡ plan.now }
     requires core { core.0 < plan.now.cores }
@@ -77,7 +76,7 @@ fn ceilings_at(plan: &Plan, levels: &Levels<'_>, core: CoreId) -> [u32; MOST_RES
     ceilings
 }
 
-// Room for all jobs of a core: what no job comes to is never touched.
+// Room for all jobs of a core; pages that no job reaches are never touched.
 fn room(alloc: Global, plan: &Plan, core: CoreId) -> Result<Vec<Started>, Memory>
     ensures empty { IfOk result (λ started. started.items ≡ []) }
     ensures room { IfOk result (λ started. length (jobs_on plan.now core.0) ≤ vec_capacity started) }
@@ -86,8 +85,8 @@ fn room(alloc: Global, plan: &Plan, core: CoreId) -> Result<Vec<Started>, Memory
 }
 
 impl<'a> CeilingStack<'a> {
-    /// A stack on which no job is started. All memory that it ever needs is taken here: it is [`Memory`] only where
-    /// that was refused.
+    /// A stack without a started job, with all memory that it needs; [`Memory`] only if it runs
+    /// out.
     pub fn with_room(
         alloc: Global,
         plan: &'a Plan,
@@ -118,7 +117,7 @@ impl<'a> CeilingStack<'a> {
         });
     }
 
-    /// The job on top locks a local resource: one that it doesn't hold, and it holds fewer than 8.
+    /// The job on top locks a local resource that it doesn't hold; it holds fewer than 8.
     pub fn lock(&mut self, res: ResId)
         requires local { is_global self.old.plan res.0 ≡ false }
         requires declared { res.0 < length self.old.plan.resources }
@@ -128,8 +127,8 @@ impl<'a> CeilingStack<'a> {
         self.take(res);
     }
 
-    /// The job on top requests a global resource: one that it doesn't hold, and it holds fewer than 8. The core's
-    /// ceiling rises to its highest level.
+    /// The job on top requests a global resource that it doesn't hold; it holds fewer than 8. The
+    /// core's ceiling rises to its highest level.
     pub fn raise_global(&mut self, res: ResId)
         requires global { is_global self.old.plan res.0 ≡ true }
         requires declared { res.0 < length self.old.plan.resources }
@@ -157,7 +156,7 @@ impl<'a> CeilingStack<'a> {
         self.give_back();
     }
 
-    /// The job on top is finished: it holds nothing.
+    /// The job on top, which holds nothing, is finished.
     pub fn finish(&mut self)
         requires { IsDone self.old.started }
         ensures { self.new ≡ record self.old { started = without_newest self.old.started } }
@@ -165,7 +164,7 @@ impl<'a> CeilingStack<'a> {
         self.started.pop();
     }
 
-    /// The started job that comes first, which is the one on top.
+    /// The first of the started jobs, the one on top.
     pub fn top(&self) -> Option<JobId>
         ensures first { result ≡ top self.now }
         ensures newest { result ≡ newest self.now.started }
@@ -180,7 +179,7 @@ impl<'a> CeilingStack<'a> {
         self.ceiling
     }
 
-    // The job that was started last.
+    // The job started last.
     fn newest(&self) -> Option<JobId>
         ensures job { result ≡ newest self.now.started }
         ensures first { newest self.now.started ≡ top self.now }
@@ -188,7 +187,7 @@ impl<'a> CeilingStack<'a> {
         self.started.last().map(|started| started.job)
     }
 
-    // One resource more for the job on top: the ceiling from before is kept with it.
+    // Gives the job on top a resource, and saves the ceiling with it.
     fn take(&mut self, res: ResId)
         requires declared { res.0 < length self.old.plan.resources }
         requires room { HasRoom self.old.started most_held res.0 }
@@ -200,7 +199,7 @@ impl<'a> CeilingStack<'a> {
         self.ceiling = before.max(self.ceilings[res.0 as usize]);
     }
 
-    // The last resource of the job on top goes, and the ceiling from before it is back.
+    // Takes the last resource from the job on top, and restores the ceiling.
     fn give_back(&mut self)
         requires { SomeHeld self.old.started }
         ensures { self.new ≡ record self.old { started = without_held self.old.started } }

@@ -46,7 +46,7 @@ locking_plan = record {
 abbrev pub listed_head : List ℕ
 listed_head = codes "msrp,2\ncores,1\nticks,5\n"
 
--- a bare listed task after them
+-- a listed task without units after them
 abbrev pub bare_list : List ℕ
 bare_list = listed_head ++ codes "listed,a,0,4\n"
 

@@ -4,35 +4,35 @@ use Rattle.msrp_plan.specs.Common.{ℕ, Bool, false, not, List, [], length, Opti
 use Rattle.std.specs.Str.{is_utf8}
 use Rattle.csv.specs.Records.{field_at}
 
--- a number is `0`, or a digit 1 to 9 and then digits, and has nine digits at most
+-- a number is `0`, or a digit 1 to 9 and then digits, at most nine in all
 abbrev pub is_number : List ℕ → Bool
 is_number text = is_within 1 9 (length text) && ((length text == 1) || not (slice_index text 0 == 48)) && list_all is_ascii_digit text
 
--- what decimal digits stand for, the first one the highest
+-- the value of decimal digits, the first one the highest
 abbrev pub digits_value : List ℕ → ℕ
 digits_value digits = fold (λ n digit. n * 10 + (digit - 48)) 0 digits
 
--- the number that a text stands for, if it is one
+-- the number that a text denotes, if it is one
 abbrev pub number_of : List ℕ → Option ℕ
 number_of text = if is_number text then Some (digits_value text) else None
 
--- a text of bytes, and the empty one in place of what isn't UTF-8
+-- a text of bytes, or the empty one if they aren't UTF-8
 abbrev pub text_of : List ℕ → List ℕ
 text_of bytes = if is_utf8 bytes then bytes else []
 
--- a field is there and is that word
+-- the field is there and is that word
 abbrev pub is_word : List ℕ → Option (List ℕ) → Bool
 is_word word None = false
 is_word word (Some field) = bytes_eq field word
 
--- a record has that word at a place, counted from 0
+-- the record has that word at an index, from 0
 abbrev pub has_word : List (List ℕ) → ℕ → List ℕ → Bool
 has_word fields i word = is_word word (field_at fields i)
 
--- the number that a record has at a place, if there is one
+-- the number in a record's field at an index, if it is one
 abbrev pub number_at : List (List ℕ) → ℕ → Option ℕ
 number_at fields i = option_and_then number_of (field_at fields i)
 
--- the name that a record has at a place: empty where that field is missing or isn't UTF-8
+-- the name in a record's field at an index: empty if the field is missing or isn't UTF-8
 abbrev pub name_at : List (List ℕ) → ℕ → List ℕ
 name_at fields i = text_of (unwrap_or (field_at fields i) [])

@@ -13,26 +13,26 @@ use Rattle.msrp_text.specs.declared.records.Way.TheVariants as way
 abbrev pub is_break : ℕ → Bool
 is_break b = (b == 10) || (b == 13)
 
--- a line ends at that byte: at a CR, or at an LF that stands behind no CR
+-- a line ends at that byte: at a CR, or at an LF that doesn't follow a CR
 abbrev pub ends_line : ℕ → ℕ → Bool
 ends_line before b = (b == 13) || ((b == 10) && not (before == 13))
 
--- how many lines end in a text that stands behind that byte, by LF, CR or CRLF
+-- the number of lines that end in a text after that byte, by LF, CR or CRLF
 unfoldable pub ends_behind : ℕ → List ℕ → ℕ
 ends_behind before [] = 0
 ends_behind before (b ∷ rest) = if ends_line before b then ends_behind b rest + 1 else ends_behind b rest
 
--- how many lines end in a text
+-- the number of lines that end in a text
 abbrev pub lines_ended : List ℕ → ℕ
 lines_ended text = ends_behind 0 text
 
--- a record begins with the first byte: there is one, and it ends no line
+-- a record begins with the first byte: there is one, and it doesn't end a line
 abbrev pub begins_record : List ℕ → Bool
 begins_record [] = false
 begins_record (b ∷ rest) = not (is_break b)
 
--- the record of that number begins in that line: the text is cut in two where a record begins. What stands behind is read as the records from that one
--- on, and all lines before that one end in what stands before
+-- the record of that number begins in that line: the text is cut in two where a record begins, the
+-- rest has the records from this one on, and all earlier lines end before it
 pub record BeginsIn (text : List ℕ) (number line : ℕ) : Type 0 where
   pub before : List ℕ
   pub rest : List ℕ
@@ -42,7 +42,7 @@ pub record BeginsIn (text : List ℕ) (number line : ℕ) : Type 0 where
   pub line_is : line ≡ lines_ended before + 1
 
 -- ---- what a reader has read
--- the last byte of a text that stands behind that byte
+-- the last byte of a text that follows that byte
 unfoldable pub last_behind : ℕ → List ℕ → ℕ
 last_behind before [] = before
 last_behind before (b ∷ rest) = last_behind b rest
@@ -51,7 +51,7 @@ last_behind before (b ∷ rest) = last_behind b rest
 abbrev pub byte_before : {R : Type 0} → Lines R → ℕ
 byte_before lines = if lines.begun then slice_index lines.buffer (lines.at - 1) else 0
 
--- so many records of a text were taken, of a line each, and the empty lines among them and behind them were counted, if they can be
+-- this many records were taken, a line each, and the empty lines so far were counted, if they fit
 pub record HasTaken {R : Type 0} (remaining : R → Option (List ℕ)) (text : List ℕ) (number : ℕ) (lines : Lines R) : Type 0 where
   pub before : List ℕ
   pub left : List ℕ
@@ -62,12 +62,12 @@ pub record HasTaken {R : Type 0} (remaining : R → Option (List ℕ)) (text : L
   pub counted : (empty : ℕ) → lines.passed ≡ Some empty → lines_ended before ≡ number + empty
   pub counts : length text < 2 ^ 32 → IsSome lines.passed
 
--- the same of either way; nothing is said once `csv` reads
+-- for both ways of reading; nothing is said once `csv` reads
 abbrev pub HasTakenBy : {R : Type 0} → (R → Option (List ℕ)) → List ℕ → ℕ → Way R → Type 0
 HasTakenBy remaining text number (way.Lines lines) = HasTaken remaining text number lines
 HasTakenBy remaining text number (way.Csv records) = ⊤
 
--- how many empty lines stand before the record that was read last, where that is known
+-- the number of empty lines before the record read last, if known
 abbrev pub empty_at : {R : Type 0} → Option ℕ → Way R → Option ℕ
 empty_at first (way.Lines lines) = lines.passed
 empty_at first (way.Csv records) = first
@@ -75,7 +75,7 @@ empty_at first (way.Csv records) = first
 abbrev pub empty_before : {R : Type 0} → RecordReader R → Option ℕ
 empty_before r = empty_at r.first r.way
 
--- a reader has read so many records of a text, and knows in which line the last of them begins, where it knows the empty lines before
+-- a reader has read this many records, and knows the last one's line if it knows the empty lines
 pub record HasRead {R : Type 0} (remaining : R → Option (List ℕ)) (text : List ℕ) (number : ℕ) (r : RecordReader R) : Type 0 where
   pub taken : HasTakenBy remaining text number r.way
   pub line : (empty : ℕ) → empty_before r ≡ Some empty → 1 ≤ number → BeginsIn text number (number + empty)

@@ -1,4 +1,4 @@
--- A plan as text: version 1 where no task is released by a list, else version 2.
+-- A plan as text: version 2 if it has a listed task, otherwise 1.
 use Rattle.std.specs.Prelude.{◌∷◌, ◌++◌, ◌+◌, if◌then◌else◌}
 use Rattle.msrp_plan.specs.Common.{ℕ, List, [], codes, decimal, map, slice_index_or, flat_map, list_any, PlanModel, TaskModel, Every, Listed, ReleaseTimes, listed_ticks}
 use Rattle.msrp_plan.specs.declared.rows.TextVersion.{TextVersion}
@@ -30,7 +30,7 @@ joined (Run n ∷ steps) = Run (n + 1) ∷ steps
 joined (Lock g ∷ steps) = Run 1 ∷ Lock g ∷ steps
 joined (Unlock g ∷ steps) = Run 1 ∷ Unlock g ∷ steps
 
--- units as steps, of which no two runs follow each other
+-- units as steps, without adjacent runs
 abbrev pub steps_of : List Op → List Step
 steps_of [] = []
 steps_of (unit.Run ∷ us) = joined (steps_of us)
@@ -64,7 +64,7 @@ abbrev pub version_text : TextVersion → List ℕ
 version_text V1 = codes "1"
 version_text V2 = codes "2"
 
--- a listed task wants version 2
+-- a listed task needs version 2
 abbrev pub version_of : PlanModel → TextVersion
 version_of plan = if list_any (λ task. is_listed task.times) plan.tasks then V2 else V1
 
@@ -82,7 +82,7 @@ head_records plan =
 abbrev pub resource_record : List ℕ → List (List ℕ)
 resource_record name = codes "resource" ∷ name ∷ []
 
--- the records that tell the plan, and its text
+-- the records of the plan, and its text
 unfoldable pub plan_records : PlanModel → List (List (List ℕ))
 plan_records plan = head_records plan ++ (map resource_record plan.resources ++ flat_map (task_records plan) plan.tasks)
 

@@ -1,4 +1,4 @@
--- Where a reader of a plan stands between two records: what is to be read next, and the plan so far.
+-- A reader of a plan between two records: what is next, and the plan so far.
 use Rattle.msrp_plan.specs.Common.{ℕ, List, Option, Some, None, Ok, Err, codes, is_none, length, empty_plan, PlanModel}
 use Rattle.msrp_plan.specs.declared.faults.PlanFault.{PlanFault}
 use Rattle.msrp_plan.specs.declared.units.Step.{Step}
@@ -17,7 +17,7 @@ use Rattle.msrp_text.specs.declared.records.Stopped.TheVariants as stop
 use Rattle.msrp_text.specs.declared.reading.Unread.{Unread}
 use Rattle.msrp_text.specs.declared.reading.Unread.TheVariants.{Told, TooMany}
 
--- the first rule that the next record, or the end, breaks at a position
+-- the first rule that the next record, or the end, violates at a position
 unfoldable pub position_fault : Position → Option (List (List ℕ)) → Option PlanFault
 position_fault Version next = version_fault next
 position_fault (Cores version) next = cores_fault next
@@ -38,7 +38,7 @@ position_plan (Cores version) = empty_plan 0 0
 position_plan (Ticks version cores) = empty_plan cores 0
 position_plan (Body version plan) = plan
 
--- a record is refused with its position's fault if that has one, else its position goes on as it should but for want of memory
+-- a record is refused with its position's fault, if any; otherwise taken, unless memory runs out
 abbrev pub IsTaken : {A : Type 0} → Option PlanFault → A → Result A PlanFault → Type 0
 IsTaken (Some fault) next r = r ≡ Err fault
 IsTaken None next r = (r ≡ Err Memory) ⊎ (r ≡ Ok next)
@@ -48,22 +48,22 @@ abbrev pub task_numbers : List (List ℕ) → Option TaskNumbers
 task_numbers fields =
     if lacks_number fields then None else Some (record { core = number_told fields 2; period = number_told fields 3; deadline = number_told fields 4; offset = number_told fields 5 })
 
--- what an `op` record tells, unless it is a run whose number is none
+-- the step of an `op` record, unless it is a run without a number
 abbrev pub numbered_step : PlanModel → List (List ℕ) → Option Step
 numbered_step plan fields = if has_word fields 1 (codes "run") && is_none (number_at fields 2) then None else Some (step_told plan fields)
 
--- the refusal of a record by its number; want of memory refuses no record
+-- the refusal of a record by its number; lack of memory refuses none
 abbrev pub refusal : PlanFault → ℕ → TextError
 refusal Memory number = text.Memory
 refusal fault number = At fault number
 
--- a record of that number is refused with its position's fault if that has one, else its position goes on as it should but for
--- want of memory
+-- a record of that number is refused with its position's fault if there is one; otherwise it is
+-- taken, unless memory runs out
 abbrev pub IsTakenAt : {A : Type 0} → Option PlanFault → ℕ → A → Result A TextError → Type 0
 IsTakenAt (Some fault) number next r = r ≡ Err (refusal fault number)
 IsTakenAt None number next r = (r ≡ Err text.Memory) ⊎ (r ≡ Ok next)
 
--- why a text is unread where a read stopped
+-- why a text is unread after a stopped read
 abbrev pub unread_at : Stopped → Unread
 unread_at stop.Read = Told text.Read
 unread_at stop.Memory = Told text.Memory
@@ -72,7 +72,7 @@ unread_at stop.Memory = Told text.Memory
 abbrev pub most_records : ℕ
 most_records = 4294967294
 
--- the records give their plan or what is told in its place, but where there are more than can be numbered
+-- the records give their plan or the answer in its place, unless there are too many to number
 abbrev pub ReadsAs : List (List (List ℕ)) → Result PlanModel Unread → Type 0
 ReadsAs records (Ok plan) = Answers (Ok plan) (plan_of records)
 ReadsAs records (Err (Told error)) = Answers (Err error) (plan_of records)

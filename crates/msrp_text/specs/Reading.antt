@@ -1,4 +1,4 @@
--- The plan that a list of records tells, or the first refusal of one of them.
+-- The plan of a list of records, or their first refusal.
 use Rattle.msrp_plan.specs.Common.{ℕ, Bool, not, List, [], length, Option, Some, None, Ok, Err, codes, drop, fold, is_none, nat_le, option_map, slice_get, slice_index_or, take, unwrap_or, filter_map, range_with_len, empty_plan, finish_fault, is_within, new_fault, new_task, op_fault, release_fault, resource_fault, takes_releases, task_fault, units_of, with_release, with_resource, with_task, with_units, name_position, PlanModel, TaskModel, Every, Listed, most_cores}
 use Rattle.msrp_plan.specs.declared.faults.PlanFault.{PlanFault}
 use Rattle.msrp_plan.specs.declared.faults.PlanFault.TheVariants.{Limit}
@@ -15,19 +15,19 @@ use Rattle.msrp_text.specs.declared.reading.TextError.{TextError}
 use Rattle.msrp_text.specs.declared.reading.TextError.TheVariants.{At, Read, Memory}
 pub use Rattle.msrp_text.specs.Records.{csv_records}
 
--- the number that a record tells at a place
+-- the number in a record's field
 abbrev pub number_told : List (List ℕ) → ℕ → ℕ
 number_told fields i = unwrap_or (number_at fields i) 0
 
--- the task that a `task` record tells: name, core, period, relative deadline, offset, and no unit yet
+-- the task of a `task` record: name, core, period, relative deadline, offset, and no unit yet
 abbrev pub task_told : List (List ℕ) → TaskModel
 task_told fields = new_task (name_at fields 1) (number_told fields 2) (Every (number_told fields 3) (number_told fields 5)) (number_told fields 4)
 
--- the task that a `listed` record tells: name, core and relative deadline, and no release or unit yet
+-- the task of a `listed` record: name, core and relative deadline, and no release or unit yet
 abbrev pub listed_told : List (List ℕ) → TaskModel
 listed_told fields = new_task (name_at fields 1) (number_told fields 2) (Listed []) (number_told fields 3)
 
--- the number that stands for a resource which the plan hasn't declared: the greatest of 32 bits
+-- the number of an undeclared resource: the greatest of 32 bits
 abbrev pub undeclared : ℕ
 undeclared = 4294967295
 
@@ -35,21 +35,21 @@ undeclared = 4294967295
 abbrev pub resource_told : PlanModel → List ℕ → ResId
 resource_told plan name = record { 0 = unwrap_or (name_position plan.resources name) undeclared }
 
--- the units that an `op` record tells: a run of work, a lock or an unlock
+-- the units of an `op` record: a run of work, a lock or an unlock
 abbrev pub step_told : PlanModel → List (List ℕ) → Step
 step_told plan fields =
     if has_word fields 1 (codes "run") then Run (number_told fields 2)
     else if has_word fields 1 (codes "lock") then Lock (resource_told plan (name_at fields 2))
     else Unlock (resource_told plan (name_at fields 2))
 
--- a plan with what a record of release lists tells: a new task, or a release of the newest one
+-- a plan with a record of release lists: a new task, or a release of the newest one
 abbrev pub with_list_record : PlanModel → List (List ℕ) → PlanModel
 with_list_record plan fields =
     if has_word fields 0 (codes "listed") then with_task plan (listed_told fields)
     else if has_word fields 0 (codes "release") then with_release plan (number_told fields 1)
     else plan
 
--- a plan with what one more record tells: a resource, a new task, or units or a release of the newest one
+-- a plan with one more record: a resource, a new task, or units or a release of the newest one
 abbrev pub with_record : PlanModel → List (List ℕ) → PlanModel
 with_record plan fields =
     if has_word fields 0 (codes "resource") then with_resource plan (name_at fields 1)
@@ -57,12 +57,12 @@ with_record plan fields =
     else if has_word fields 0 (codes "op") then with_units plan (units_of (step_told plan fields))
     else with_list_record plan fields
 
--- the record at a place, counted from 0; one that isn't there has no field
+-- the record at an index, from 0; one that isn't there has no field
 abbrev pub record_at : List (List (List ℕ)) → ℕ → List (List ℕ)
 record_at records n = slice_index_or records n []
 
--- the plan that records tell: the cores in the second, the ticks in the third, and then the resources, and the tasks
--- with their releases and units
+-- the plan of records: the cores in the second, the ticks in the third, then the resources, then
+-- the tasks with their releases and units
 unfoldable pub plan_told : List (List (List ℕ)) → PlanModel
 plan_told records = fold with_record (empty_plan (number_told (record_at records 1) 1) (number_told (record_at records 2) 1)) (drop 3 records)
 
@@ -73,7 +73,7 @@ is_version fields = (length fields == 2) && has_word fields 0 (codes "msrp") && 
 abbrev pub version_told : List (List ℕ) → TextVersion
 version_told fields = if has_word fields 1 (codes "2") then V2 else V1
 
--- nothing but the version may come first
+-- only the version may be first
 abbrev pub version_fault : Option (List (List ℕ)) → Option PlanFault
 version_fault None = Some Version
 version_fault (Some fields) = fault_if (not (is_version fields)) Version None
@@ -103,7 +103,7 @@ resource_record_fault plan fields =
     fault_if (not (length fields == 2)) FieldCount (
     resource_fault plan (name_at fields 1)))
 
--- one of the four numbers of a `task` record is none
+-- one of the four numbers of a `task` record isn't a number
 abbrev pub lacks_number : List (List ℕ) → Bool
 lacks_number fields = is_none (number_at fields 2) || (is_none (number_at fields 3) || (is_none (number_at fields 4) || is_none (number_at fields 5)))
 
@@ -145,7 +145,7 @@ release_record_fault plan fields =
     fault_if (is_none (number_at fields 1)) Number (
     release_fault plan (number_told fields 1))))
 
--- records of release lists are of version 2
+-- only version 2 has records of release lists
 abbrev pub list_fault : TextVersion → PlanModel → List (List ℕ) → Option PlanFault
 list_fault V1 plan fields = Some OutOfPlace
 list_fault V2 plan fields =
@@ -153,7 +153,7 @@ list_fault V2 plan fields =
     else if has_word fields 0 (codes "release") then release_record_fault plan fields
     else Some OutOfPlace
 
--- every further record is a resource, a task, or units or a release of the newest task, and the end makes the plan whole
+-- later records are resources, tasks, or units or releases of the newest task; then comes the end
 abbrev pub body_fault : TextVersion → PlanModel → Option (List (List ℕ)) → Option PlanFault
 body_fault version plan None = finish_fault plan
 body_fault version plan (Some fields) =
@@ -162,30 +162,30 @@ body_fault version plan (Some fields) =
     else if has_word fields 0 (codes "op") then op_record_fault plan fields
     else list_fault version plan fields
 
--- the first rule that the next record breaks, given the records before it; None stands for the end of the records
+-- the first rule that the next record violates, given the earlier ones; None is the end
 unfoldable pub fault_after : List (List (List ℕ)) → Option (List (List ℕ)) → Option PlanFault
 fault_after [] next = version_fault next
 fault_after (version ∷ []) next = cores_fault next
 fault_after (version ∷ cores ∷ []) next = ticks_fault (number_told cores 1) next
 fault_after (version ∷ cores ∷ ticks ∷ rest) next = body_fault (version_told version) (plan_told (version ∷ cores ∷ ticks ∷ rest)) next
 
--- a refusal by the number of its record: records are counted from 1, and the end counts as one more
+-- a refusal by its record's number: records are counted from 1, the end as one more
 abbrev pub refusal_at : List (List (List ℕ)) → ℕ → Option TextError
 refusal_at records n = option_map (λ fault. At fault (n + 1)) (fault_after (take n records) (slice_get records n))
 
--- the refusals of all records that break a rule given those before them
+-- the refusals of all records that violate a rule, given those before them
 abbrev pub refusals : List (List (List ℕ)) → List TextError
 refusals records = filter_map (refusal_at records) (range_with_len 0 (length records + 1))
 
--- the first refusal, or else the plan
+-- the first refusal, otherwise the plan
 abbrev pub first_or : List TextError → PlanModel → Result PlanModel TextError
 first_or [] plan = Ok plan
 first_or (refusal ∷ rest) plan = Err refusal
 
--- the plan that the records tell, or the first refusal
+-- the plan of the records, or the first refusal
 unfoldable pub plan_of : List (List (List ℕ)) → Result PlanModel TextError
 plan_of records = first_or (refusals records) (plan_told records)
 
--- an answer is the one that is due, but for a read that failed and for memory
+-- the answer is this one, unless a read failed or memory ran out
 abbrev pub Answers : Result PlanModel TextError → Result PlanModel TextError → Type 0
 Answers answer due = (answer ≡ Err Read) ⊎ (answer ≡ Err Memory) ⊎ (answer ≡ due)

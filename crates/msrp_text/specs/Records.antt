@@ -1,4 +1,4 @@
--- The records of a text, and those that a reader of records has left.
+-- The records of a text, and those that a reader has left.
 use Rattle.std.specs.Prelude.{◌≡◌, ◌+◌, ◌++◌, ◌∷◌, if◌then◌else◌}
 use Rattle.msrp_plan.specs.Common.{ℕ, Bool, true, false, List, [], length, Option, Some, None, option_map}
 use Rattle.csv.specs.Reading.{default_config, records, reader_source, records_from, source_of, strip_bom, reader_state}
@@ -12,15 +12,15 @@ use Rattle.msrp_text.specs.declared.records.Way.{Way}
 use Rattle.csv.specs.declared.parser.State.TheVariants as st
 use Rattle.msrp_text.specs.declared.records.Way.TheVariants as way
 
--- the records of a text: a byte order mark at its start is no part of it
+-- the records of a text; a byte order mark at its start is ignored
 abbrev pub csv_records : List ℕ → List (List (List ℕ))
 csv_records bytes = records default_config (strip_bom bytes)
 
--- the records of what is left of a text, from where a reader stands in it
+-- the records of the rest of a text, from a reader's state in it
 unfoldable pub records_at : State → List ℕ → List (List (List ℕ))
 records_at state bytes = records_from default_config (length bytes + 1) state bytes
 
--- the records from the start of one on; at the start of a text a byte order mark is no part of them
+-- the records from the start of one on; a byte order mark at the start of a text is ignored
 abbrev pub records_of : Bool → List ℕ → List (List (List ℕ))
 records_of begun bytes = records_at st.StartRecord (if begun then bytes else strip_bom bytes)
 
@@ -60,7 +60,7 @@ left_at remaining (way.Csv records) = csv_left (unread remaining) records
 abbrev pub reader_under : {R : Type 0} → RecordReader R → R
 reader_under r = under r.way
 
--- why a read failed, if one did, as each further one does
+-- why a read failed, if one did, as each later one does
 abbrev pub stop_of : {R : Type 0} → RecordReader R → Option Stopped
 stop_of r = stop_at r.way
 
@@ -68,28 +68,28 @@ stop_of r = stop_at r.way
 abbrev pub reads_csv : {R : Type 0} → RecordReader R → Bool
 reads_csv r = is_csv r.way
 
--- the bytes that were read ahead, from the next record on
+-- the bytes read ahead, from the next record on
 abbrev pub bytes_ahead : {R : Type 0} → RecordReader R → List ℕ
 bytes_ahead r = ahead_at r.way
 
--- the records that are left, where the reader underneath tells its bytes
+-- the records that are left, if what the reader underneath has left is known
 abbrev pub records_left : {R : Type 0} → (R → Option (List ℕ)) → RecordReader R → Option (List (List (List ℕ)))
 records_left remaining r = left_at remaining r.way
 
--- a read gives the first of the records that were left, and leaves those after it; where none was left it tells so
+-- a read returns the first of the records left, and leaves the others; if none was left, says so
 abbrev pub GivesNext : List (List (List ℕ)) → Bool → List (List ℕ) → Option (List (List (List ℕ))) → Type 0
 GivesNext [] found row after = found ≡ false
 GivesNext (r ∷ rest) found row after = (found ≡ true) × (row ≡ r) × (after ≡ Some rest)
 
--- the next of the records that were left, where those are known, is of these fields, and those after it are left
+-- the next of the records left, if they are known, has these fields, and the others are left
 abbrev pub GivesLine : Option (List (List (List ℕ))) → List (List ℕ) → Option (List (List (List ℕ))) → Type 0
 GivesLine old fields new = (left : List (List (List ℕ))) → old ≡ Some left → GivesNext left true fields new
 
--- the records that were left, where those are known, are left still
+-- the records that were left, if they are known, are still left
 abbrev pub KeepsRecords : Option (List (List (List ℕ))) → Option (List (List (List ℕ))) → Type 0
 KeepsRecords old new = (left : List (List (List ℕ))) → old ≡ Some left → new ≡ Some left
 
--- no record was left, where those that were are known
+-- no record was left, if they are known
 abbrev pub HasNone : Option (List (List (List ℕ))) → Type 0
 HasNone known = (left : List (List (List ℕ))) → known ≡ Some left → left ≡ []
 

@@ -10,11 +10,11 @@ use Rattle.msrp_text.specs.PlanText.{records_text, step_record}
 abbrev pub steps_text : PlanModel → List Step → List ℕ
 steps_text plan steps = records_text (map (step_record plan) steps)
 
--- so many units of work
+-- n units of work
 abbrev pub run_steps : ℕ → List Step
 run_steps n = if n == 0 then [] else Run n ∷ []
 
--- what is written at a unit, and how many units of work wait after it
+-- what is written at a unit, and the number of units of work that wait after it
 abbrev pub steps_before : ℕ → Op → List Step
 steps_before run unit.Run = []
 steps_before run (unit.Lock g) = run_steps run ++ Lock g ∷ []

@@ -1,4 +1,4 @@
-//! The records of a text, read in turn by `csv`.
+//! The records of a text as the `csv` crate reads them: the way for lines that aren't plain.
 ghost use Rattle.std.specs.Prelude.{◌≡◌, ◌↔◌};
 ghost use Rattle.msrp_plan.specs.Common.{ℕ, List, Some, None, Err, IfOk, IfErr, OnOk, option_map, true, false};
 ghost use Rattle.csv.specs.Records.{fields_of};
@@ -11,7 +11,7 @@ use csv::{ByteRecord, ErrorKind, Reader, ReaderBuilder};
 use std::alloc::Global;
 use std::io::Read;
 
-// Why a read of a record failed, where no rule on records can have refused it.
+// Why a record couldn't be read; the reader is set so that no rule on records refuses one.
 fn stopped_by(kind: &ErrorKind) -> Stopped
     requires { stops_reader kind.now ≡ true }
     ensures { (result ≡ Stopped.Read) ↔ (is_io kind.now ≡ true) }
@@ -23,8 +23,7 @@ fn stopped_by(kind: &ErrorKind) -> Stopped
     }
 }
 
-/// The records of a text: fields between commas, no header row, records of any length, an empty line is no
-/// record.
+/// The records of a text: fields between commas, no header row; an empty line is no record.
 #[derive(Drop)]
 pub(crate) struct CsvRecords<R> {
     rows: Reader<R>,
@@ -38,7 +37,7 @@ pub(crate) struct CsvRecords<R> {
 impl<R: Read> CsvRecords<R> {
     ghost use Rattle.msrp_text.specs.Records.{GivesNext, csv_left, csv_records, csv_under};
 
-    /// The records of all that a reader has left.
+    /// The records of the rest of a reader.
     pub(crate) fn new(alloc: Global, text: R) -> CsvRecords<R>
         ensures left { csv_left R.remaining result ≡ option_map csv_records (R.remaining text) }
         ensures goes { result.stopped ≡ None }
@@ -60,7 +59,7 @@ impl<R: Read> CsvRecords<R> {
         self.rows.get_ref()
     }
 
-    /// The next record into `row`, and whether there was one.
+    /// Reads the next record into `row`; false at the end.
     pub(crate) fn read(&mut self, row: &mut ByteRecord) -> Result<bool, Stopped>
         ensures next { IfOk result (λ found. (left : List (List (List ℕ))) → csv_left R.remaining self.old ≡ Some left → GivesNext left found (fields_of row.new) (csv_left R.remaining self.new)) }
         ensures goes { OnOk result (self.new.stopped ≡ None) }
@@ -80,7 +79,7 @@ impl<R: Read> CsvRecords<R> {
         }
     }
 
-    /// From here on each read fails, for that reason.
+    /// Makes each further read fail, for that reason.
     pub(crate) fn stop(&mut self, why: Stopped)
         ensures under { csv_under self.new ≡ csv_under self.old }
         ensures stops { self.new.stopped ≡ Some why }

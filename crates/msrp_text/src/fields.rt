@@ -7,7 +7,7 @@ ghost use Rattle.msrp_text.specs.Fields.{has_word, is_number, name_at, number_at
 use csv::ByteRecord;
 use std::str;
 
-/// Whether a record has that word at a place, counted from 0.
+/// Whether the field at an index, from 0, is that word.
 pub fn has_word(row: &ByteRecord, i: usize, word: &[u8]) -> bool
     ensures { result ≡ has_word (fields_of row.now) i word.now }
 {
@@ -17,7 +17,7 @@ pub fn has_word(row: &ByteRecord, i: usize, word: &[u8]) -> bool
     }
 }
 
-/// The number that a record has at a place, if there is one.
+/// The number in the field at an index, if it is one.
 pub fn number_at(row: &ByteRecord, i: usize) -> Option<u32>
     ensures { result ≡ number_at (fields_of row.now) i }
 {
@@ -27,8 +27,7 @@ pub fn number_at(row: &ByteRecord, i: usize) -> Option<u32>
     }
 }
 
-/// The name that a record has at a place. It is empty where the field is missing or is not UTF-8, so that it
-/// is no name.
+/// The name in the field at an index; empty, so no name, if the field is missing or isn't UTF-8.
 pub fn name_at(row: &ByteRecord, i: usize) -> &str
     ensures { result.now ≡ name_at (fields_of row.now) i }
 {
@@ -38,7 +37,7 @@ pub fn name_at(row: &ByteRecord, i: usize) -> &str
     }
 }
 
-/// The text of a field, empty where it is not UTF-8.
+/// The text of a field; empty if it isn't UTF-8.
 pub(crate) fn text_of(field: &[u8]) -> &str
     ensures { result.now ≡ text_of field.now }
 {
@@ -48,7 +47,7 @@ pub(crate) fn text_of(field: &[u8]) -> &str
     }
 }
 
-/// The number that a text stands for: `0`, or one to nine digits of which the first is not 0.
+/// The number that a text denotes: `0`, or one to nine digits, the first not 0.
 pub fn number_of(text: &[u8]) -> Option<u32>
     ensures { result ≡ number_of text.now }
 {
@@ -62,7 +61,7 @@ pub fn number_of(text: &[u8]) -> Option<u32>
     Some(number)
 }
 
-// Whether a text stands for a number.
+// Whether a text is a number.
 fn is_number(text: &[u8]) -> bool
     ensures { result ≡ is_number text.now }
 {

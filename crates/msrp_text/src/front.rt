@@ -1,5 +1,5 @@
-//! Plain lines, whose fields stand between commas: a plain line isn't empty, has no quote, doesn't begin as a byte order mark does, is
-//! shorter than [`LONGEST`], and ends with LF, CR or CRLF.
+//! Plain lines, whose fields are between commas: such a line isn't empty, has no quote, doesn't
+//! begin like a byte order mark, is shorter than [`LONGEST`], and ends with LF, CR or CRLF.
 ghost use Rattle.std.specs.Prelude.{◌≡◌, ◌==◌, ◌&&◌, ◌||◌, ◌≤◌, ◌<◌, ◌+◌, ◌⊎◌, ◌++◌, ◌∷◌};
 ghost use Rattle.msrp_plan.specs.Common.{codes, ℕ, List, [], Some, IfOk, IsSome, true, false, slice_index, length, take, drop};
 ghost use Rattle.std.specs.Option.{IfSome};
@@ -9,22 +9,22 @@ ghost use Rattle.msrp_text.specs.Plain.{BeginsWith, BeginsWithDigit, EndsLine, S
 use csv::ByteRecord;
 use std::alloc::AllocError;
 
-// A line of so many bytes or more is left to `csv`. No line of a trace is as long, nor one of a plan.
+// `csv` reads lines this long or longer. No line of a plan or a trace is so long.
 pub(crate) const LONGEST: usize = 256;
 
-// The first byte of a byte order mark. A line that begins with it is left to `csv`.
+// The first byte of a byte order mark. `csv` reads a line that begins with it.
 pub(crate) const MARK: u8 = 0xEF;
 
-/// Where a plain line stands at the front of a text.
+/// A plain line at the front of a text.
 #[derive(Clone, Copy, Debug, PartialEq, Eq)]
 pub(crate) struct PlainLine {
     /// Its bytes, without its end.
     pub(crate) length: usize,
-    /// Its bytes with its end. Where a carriage return is all that is there of the end, a line feed may come after it.
+    /// Its bytes with its end. If the end so far is a CR, an LF may follow.
     pub(crate) taken: usize,
 }
 
-/// What stands at the front of a text of which more may come.
+/// The front of a text that may continue.
 #[derive(Clone, Copy, Debug, PartialEq, Eq)]
 pub(crate) enum Front {
     /// A plain line.
@@ -75,14 +75,14 @@ fn front_to(text: &[u8], start: usize, at: usize, row: &mut ByteRecord) -> Resul
     line_to(text, start, at, at + 1, row)
 }
 
-// Whether a byte at that place is in no plain line: a quote, and at the start what may begin a byte order mark.
+// Whether no plain line has this byte here: a quote, or at the start a byte order mark's.
 fn is_other(byte: u8, at: usize) -> bool
     ensures { result ≡ ((byte == 34) || ((at == 0) && (byte == 239))) }
 {
     byte == b'"' || (at == 0 && byte == MARK)
 }
 
-// Whether a byte is told at once to be inside a field, wherever it stands: it comes after the comma, as most do.
+// Whether a byte is surely inside a field, wherever it is: it is above the comma, as most are.
 fn is_inside(byte: u8) -> bool
     ensures above { result ≡ true → 44 < byte }
     ensures first { result ≡ true → (byte == 239) ≡ false }
@@ -90,7 +90,7 @@ fn is_inside(byte: u8) -> bool
     byte > b',' && byte != MARK
 }
 
-/// What stands at the front of a text. The fields of a plain line are put into `row`.
+/// The front of a text. Puts the fields of a plain line into `row`.
 pub(crate) fn front_of(text: &[u8], row: &mut ByteRecord) -> Result<Front, AllocError>
     ensures { IfOk result (λ front. Stands text.now (fields_of row.new) front) }
 {
@@ -119,7 +119,7 @@ pub(crate) fn front_of(text: &[u8], row: &mut ByteRecord) -> Result<Front, Alloc
     }
 }
 
-// Whether two chunks are the same, by one comparison of numbers.
+// Whether two chunks are equal, by one comparison of numbers.
 #[inline(always)]
 fn is_same_4(chunk: &[u8; 4], other: &[u8; 4]) -> bool
     ensures same { result ≡ true → chunk.now ≡ other.now }
@@ -128,7 +128,7 @@ fn is_same_4(chunk: &[u8; 4], other: &[u8; 4]) -> bool
     u32::from_le_bytes(*chunk) == u32::from_le_bytes(*other)
 }
 
-// Whether two chunks are the same, by one comparison of numbers.
+// Whether two chunks are equal, by one comparison of numbers.
 #[inline(always)]
 fn is_same_8(chunk: &[u8; 8], other: &[u8; 8]) -> bool
     ensures same { result ≡ true → chunk.now ≡ other.now }
@@ -137,7 +137,7 @@ fn is_same_8(chunk: &[u8; 8], other: &[u8; 8]) -> bool
     u64::from_le_bytes(*chunk) == u64::from_le_bytes(*other)
 }
 
-// Whether two texts of one length, of four to eight bytes, are the same: by their first and their last chunk.
+// Whether two texts of the same length, 4 to 8 bytes, are equal: their first and last chunks are.
 #[inline(always)]
 fn is_short_same(text: &[u8], other: &[u8]) -> bool
     requires length { length text.now ≡ length other.now }
@@ -152,11 +152,11 @@ fn is_short_same(text: &[u8], other: &[u8]) -> bool
     let (Some(last), Some(same_last)) = (text.last_chunk::<4>(), other.last_chunk::<4>()) else {
         return false;
     };
-    // Both are compared, without a branch between them.
+    // Both are compared, without a branch in between.
     is_same_4(first, same_first) & is_same_4(last, same_last)
 }
 
-// The same for texts of eight to 16 bytes.
+// Whether two texts of the same length, 8 to 16 bytes, are equal.
 #[inline(always)]
 fn is_same(text: &[u8], other: &[u8]) -> bool
     requires length { length text.now ≡ length other.now }
@@ -171,11 +171,11 @@ fn is_same(text: &[u8], other: &[u8]) -> bool
     let (Some(last), Some(same_last)) = (text.last_chunk::<8>(), other.last_chunk::<8>()) else {
         return false;
     };
-    // Both are compared, without a branch between them.
+    // Both are compared, without a branch in between.
     is_same_8(first, same_first) & is_same_8(last, same_last)
 }
 
-// The same for texts of 16 to 32 bytes.
+// Whether two texts of the same length, 16 to 32 bytes, are equal.
 #[inline(always)]
 fn is_long_same(text: &[u8], other: &[u8]) -> bool
     requires length { length text.now ≡ length other.now }
@@ -188,7 +188,7 @@ fn is_long_same(text: &[u8], other: &[u8]) -> bool
     is_same(&text[..16], &other[..16]) & is_same(&text[last..], &other[last..])
 }
 
-// The same for texts of 32 to 64 bytes.
+// Whether two texts of the same length, 32 to 64 bytes, are equal.
 #[inline(always)]
 fn is_longest_same(text: &[u8], other: &[u8]) -> bool
     requires length { length text.now ≡ length other.now }
@@ -198,11 +198,11 @@ fn is_longest_same(text: &[u8], other: &[u8]) -> bool
     ensures finds { text.now ≡ other.now → result ≡ true }
 {
     let last = text.len() - 32;
-    // The end first, so that nobody takes the comparison of its first bytes for that of a shorter text's.
+    // The end first, so that this isn't merged with a shorter text's comparison.
     is_long_same(&text[last..], &other[last..]) & is_long_same(&text[..32], &other[..32])
 }
 
-// Whether a text begins with another. For one of four to eight bytes, as that of most ticks, nothing is called.
+// Whether a text begins with another; without a call if that has 4 to 8 bytes, as most ticks have.
 #[inline(always)]
 pub(crate) fn begins_with(text: &[u8], front: &[u8]) -> bool
     ensures begins { result ≡ true → (after : List ℕ) × (text.now ≡ front.now ++ after) }
@@ -218,7 +218,7 @@ pub(crate) fn begins_with(text: &[u8], front: &[u8]) -> bool
     is_short_same(&text[..count], front)
 }
 
-// The same, for one that mostly has eight to 64 bytes, as what stands behind a tick: then nothing is called.
+// Whether a text begins with another; without a call if that has 8 to 64 bytes, as most rows have.
 #[inline(always)]
 pub(crate) fn begins_with_long(text: &[u8], front: &[u8]) -> bool
     ensures begins { result ≡ true → (after : List ℕ) × (text.now ≡ front.now ++ after) }
@@ -250,7 +250,7 @@ pub(crate) fn ends_line(text: &[u8]) -> bool
     text.ends_with(b"\n")
 }
 
-/// How many bytes a line takes with its end, where a text that begins with the first part of it begins with the whole line.
+/// The bytes of a whole line with its end, if it is at the front of a text that has its first part.
 pub(crate) fn line_behind(text: &[u8], front: &[u8], rest: &[u8]) -> Option<usize>
     requires { (after : List ℕ) × (text.now ≡ front.now ++ after) }
     ensures line { IfSome result (λ taken. (0 < taken) × (taken ≤ length text.now) × EndsLine (front.now ++ rest.now) (take taken text.now)) }
@@ -274,7 +274,7 @@ pub(crate) fn line_behind(text: &[u8], front: &[u8], rest: &[u8]) -> Option<usiz
     None
 }
 
-/// The digit that is the second field of a text, where the first is that one and both have a comma after them.
+/// The digit that is a text's second field, after that first field, each with a comma after it.
 #[inline(always)]
 pub(crate) fn digit_after(text: &[u8], first: &[u8]) -> Option<u8>
     ensures digit { IfSome result (λ digit. BeginsWithDigit first.now digit text.now) }

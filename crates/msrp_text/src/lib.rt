@@ -1,7 +1,7 @@
 //! Plan text: the plan of a text, or its first refusal, and the text of a plan.
 //!
-//! [`read_plan`] reads a text, and [`write_plan`] writes one. [`records`] and [`fields`] read records of any such text. [`laws`] are theorems
-//! about texts, and [`worked`] are examples of them.
+//! [`read_plan`] reads a text, and [`write_plan`] writes one. [`records`] and [`fields`] read any
+//! such text's records. [`laws`] are theorems about texts, and [`worked`] has examples.
 #![tactic(auto)]
 
 mod breaks;

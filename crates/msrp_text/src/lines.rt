@@ -1,4 +1,4 @@
-//! The bytes of a text, some of them read ahead, and the plain lines at their front.
+//! A text read ahead in blocks, whose plain lines are found there, and its empty lines counted.
 ghost use Rattle.std.specs.Prelude.{◌^◌, ◌≡◌, ◌≤◌, ◌<◌, ◌+◌, ◌++◌, ◌⊎◌, ◌==◌, ◌&&◌};
 ghost use Rattle.msrp_plan.specs.Common.{IsSome, not, ℕ, List, [], Some, None, IfOk, true, false, length, map, take, list_all};
 ghost use Rattle.msrp_text.specs.declared.front.TheConstants.{LONGEST};
@@ -16,7 +16,7 @@ use std::alloc::{AllocError, Global};
 use std::io;
 use std::io::{ErrorKind, Read};
 
-/// How many bytes are read ahead at most, and one, which is free for a line feed.
+/// The most bytes read ahead, plus one that is free for a line feed.
 pub(crate) const ROOM: usize = 16_384;
 
 /// The bytes of a text, some of them read ahead.
@@ -26,9 +26,9 @@ pub(crate) struct Lines<R> {
     buffer: [u8; ROOM],
     at: usize,
     end: usize,
-    // A line was taken, so what is left isn't the start of the text. The byte that was taken last stands before `at`.
+    // Whether a line was taken: the rest isn't the text's start, and the last byte is before `at`.
     begun: bool,
-    // How many empty lines were passed over, as long as they can be counted.
+    // The number of empty lines passed, while it fits.
     passed: Option<u32>,
     // Why a read ahead failed, if one did.
     failed: Option<ErrorKind>,
@@ -43,7 +43,7 @@ impl<R: Read> Lines<R> {
     ghost use Rattle.msrp_text.specs.Lines.{BeginsIn, HasTaken, byte_before, ends_line};
     ghost use Rattle.msrp_text.specs.Records.{GivesLine, HasNone, KeepsRecords, csv_left, records_ahead};
 
-    /// The bytes that a reader has left.
+    /// The bytes of the rest of a reader.
     pub(crate) fn new(source: R) -> Lines<R>
         ensures bytes { unread R.remaining result ≡ R.remaining source }
         ensures begun { result.begun ≡ false }
@@ -74,7 +74,7 @@ impl<R: Read> Lines<R> {
         &self.buffer[self.at..self.end]
     }
 
-    /// Takes so many of the bytes that were read ahead.
+    /// Takes bytes that were read ahead.
     pub(crate) fn take(&mut self, count: usize)
         requires count { count ≤ length (lines_ahead self.old) }
         requires some { 0 < count }
@@ -86,14 +86,14 @@ impl<R: Read> Lines<R> {
         self.begun = true;
     }
 
-    // Whether a line ends at that byte, which comes next: not at a line feed behind a carriage return, since the two are one end.
+    // Whether a line ends at that next byte: not at an LF after a CR, since the two are one end.
     fn ends_line(&self, byte: u8) -> bool
         ensures { result ≡ ends_line (byte_before self.now) byte }
     {
         byte == b'\r' || (byte == b'\n' && !(self.begun && self.buffer[self.at - 1] == b'\r'))
     }
 
-    // Reads more ahead where no byte is there.
+    // Reads ahead if no byte is there.
     fn look(&mut self)
         ensures kept { Keeps (unread R.remaining self.old) (unread R.remaining self.new) }
         ensures begun { self.new.begun ≡ self.old.begun }
@@ -106,7 +106,8 @@ impl<R: Read> Lines<R> {
         }
     }
 
-    // Passes over a line end that comes next, or a part of one, and whether there was one. A line that ends there is empty.
+    // Passes a line end, or a part of one; false if none is next. The line that ends there is
+    // empty.
     fn pass_end(&mut self) -> bool
         ensures none { NoLine LONGEST (lines_ahead self.new) → NoLine LONGEST (lines_ahead self.old) }
         ensures same { KeepsRecords (records_ahead R.remaining self.old) (records_ahead R.remaining self.new) }
@@ -126,7 +127,7 @@ impl<R: Read> Lines<R> {
         true
     }
 
-    // Passes over the line ends that come next: an empty line is no record.
+    // Passes all line ends that are next: an empty line is no record.
     fn pass_ends(&mut self)
         ensures none { NoLine LONGEST (lines_ahead self.new) → NoLine LONGEST (lines_ahead self.old) }
         ensures same { KeepsRecords (records_ahead R.remaining self.old) (records_ahead R.remaining self.new) }
@@ -139,7 +140,7 @@ impl<R: Read> Lines<R> {
         }
     }
 
-    /// The plain line that is next, if one is: its fields into `row`. It is not taken. As much is read as it takes.
+    /// Reads the next line's fields into `row` if it is plain; takes nothing, reads no further.
     pub(crate) fn peek(&mut self, row: &mut ByteRecord) -> Result<Option<PlainLine>, AllocError>
         ensures line { IfOk result (λ found. IsPeeked (lines_ahead self.new) (fields_of row.new) found) }
         ensures none { NoLine LONGEST (lines_ahead self.new) → NoLine LONGEST (lines_ahead self.old) }
@@ -156,8 +157,8 @@ impl<R: Read> Lines<R> {
         }
     }
 
-    /// One more read ahead, and whether it gave a byte. Where it fails, no more is read ahead, and the read after the bytes that are
-    /// there fails.
+    /// Reads ahead once more; false if no byte came. After a failed read nothing more is read
+    /// ahead, and the read after the bytes that are there fails.
     #[inline(never)]
     pub(crate) fn fetch(&mut self) -> bool
         ensures kept { Keeps (unread R.remaining self.old) (unread R.remaining self.new) }
@@ -171,7 +172,7 @@ impl<R: Read> Lines<R> {
         if self.failed.is_some() {
             return false;
         }
-        // The byte before the next one is kept.
+        // The byte before the next one stays.
         let front = self.at.min(1);
         let start = self.at - front;
         self.buffer.copy_within(start..self.end, 0);
@@ -189,7 +190,7 @@ impl<R: Read> Lines<R> {
         }
     }
 
-    /// Whether no byte is left. More is read ahead where that has to be known. Where a read ahead failed there is no end.
+    /// Whether no byte is left; reads ahead to find out. A failed read ahead isn't the end.
     pub(crate) fn is_at_end(&mut self) -> bool
         ensures same { KeepsRecords (records_ahead R.remaining self.old) (records_ahead R.remaining self.new) }
         ensures none { result ≡ true → HasNone (records_ahead R.remaining self.new) }
@@ -201,14 +202,14 @@ impl<R: Read> Lines<R> {
         !self.fetch() && self.failed.is_none()
     }
 
-    /// How many empty lines were passed over, as long as they can be counted.
+    /// The number of empty lines passed, while it fits.
     pub(crate) fn passed(&self) -> Option<u32>
         ensures { result ≡ self.now.passed }
     {
         self.passed
     }
 
-    /// How many empty lines stand before the next record, where one begins with the next byte.
+    /// The number of empty lines before the next record, if one begins with the next byte.
     pub(crate) fn empty_before(&self) -> Option<u32>
         ensures { (bytes : List ℕ) (number empty : ℕ) → HasTaken R.remaining bytes number self.now → result ≡ Some empty → BeginsIn bytes (number + 1) (number + 1 + empty) }
     {
@@ -218,14 +219,14 @@ impl<R: Read> Lines<R> {
         None
     }
 
-    /// The records that are left, read by `csv`.
+    /// The remaining records, read by `csv`.
     pub(crate) fn into_records(self, alloc: Global) -> CsvRecords<Lines<R>>
         ensures left { KeepsRecords (records_ahead R.remaining self) (csv_left (unread R.remaining) result) }
         ensures goes { result.stopped ≡ None }
     {
         let mut rest = self;
         if rest.begun {
-            // A reader of records takes a byte order mark off the front. After a line feed it finds none.
+            // `csv` drops a byte order mark at the front. After a line feed it finds none.
             let front = rest.at - 1;
             rest.at = front;
             rest.begun = false;

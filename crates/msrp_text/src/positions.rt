@@ -1,4 +1,4 @@
-//! Plan text, record by record.
+//! Plan text, record by record: what may follow, and the plan so far.
 ghost use Rattle.std.specs.Prelude.{◌≡◌};
 ghost use Rattle.msrp_plan.specs.Common.{Some, None, Ok, OnOk, true, empty_plan, units_of, with_release, with_resource, with_task, with_units};
 ghost use Rattle.std.specs.Result.{result_and};
@@ -14,16 +14,16 @@ use msrp_plan::limits::MOST_CORES;
 use msrp_plan::{CoreId, Plan, PlanBuilder, PlanFault, ResId, Step, TextVersion};
 use std::alloc::Global;
 
-/// Where a reader stands between two records.
+/// What a reader expects between two records.
 #[derive(Drop)]
 pub(crate) enum Position {
-    /// The version has to come.
+    /// The version is next.
     Version,
-    /// The number of cores has to come, in a text of that version.
+    /// The number of cores is next, in a text of that version.
     Cores(TextVersion),
-    /// The number of ticks has to come, for so many cores.
+    /// The number of ticks is next, for this many cores.
     Ticks(TextVersion, u32),
-    /// Resources, tasks, releases and units may come, and the end.
+    /// Resources, tasks, releases and units may follow, and the end.
     Body(TextVersion, PlanBuilder),
 }
 
@@ -42,7 +42,7 @@ fn read_version(row: &ByteRecord) -> Result<Position, PlanFault>
     }
 }
 
-// The second record. The number of cores is judged here, the number of ticks by the builder.
+// The second record. The number of cores is checked here, the number of ticks by the builder.
 fn read_cores(version: TextVersion, row: &ByteRecord) -> Result<Position, PlanFault>
     ensures { IsTaken (cores_fault (Some (fields_of row.now))) (Position.Ticks version (number_told (fields_of row.now) 1)) result }
 {
@@ -95,7 +95,6 @@ fn read_resource(builder: &mut PlanBuilder, row: &ByteRecord) -> Result<(), Plan
     Ok(())
 }
 
-// The numbers of a task's record.
 #[derive(Clone, Copy)]
 struct TaskNumbers {
     core: u32,
@@ -104,7 +103,7 @@ struct TaskNumbers {
     offset: u32,
 }
 
-// The numbers of a task's record, if all four are there.
+// The numbers of a task's record, if all four are numbers.
 fn task_numbers(row: &ByteRecord) -> Option<TaskNumbers>
     ensures { result ≡ task_numbers (fields_of row.now) }
 {
@@ -139,14 +138,14 @@ fn read_task(builder: &mut PlanBuilder, row: &ByteRecord) -> Result<(), PlanFaul
     }
 }
 
-/// The resource of a name. One that was not declared gets the greatest number, which the builder refuses.
+/// The resource of a name. An undeclared one gets the greatest number, which the builder refuses.
 pub(crate) fn resource_told(builder: &PlanBuilder, name: &str) -> ResId
     ensures { result ≡ resource_told builder.now name.now }
 {
     builder.res_of(name).unwrap_or(ResId(u32::MAX))
 }
 
-// What an operation's record tells, where its second field is one of the three words.
+// The step of an operation's record, if its second field is one of the three words.
 fn step_told(builder: &PlanBuilder, row: &ByteRecord) -> Option<Step>
     requires { is_op_word (fields_of row.now) ≡ true }
     ensures { result ≡ numbered_step builder.now (fields_of row.now) }
@@ -174,7 +173,7 @@ fn is_op_word(row: &ByteRecord) -> bool
     has_word(row, 1, b"run") || is_lock_word(row)
 }
 
-// Units of the newest task.
+// Adds units to the newest task.
 fn read_op(builder: &mut PlanBuilder, row: &ByteRecord) -> Result<(), PlanFault>
     ensures judged { IsJudged (op_record_fault builder.old (fields_of row.now)) result }
     ensures added { OnOk result (builder.new ≡ with_units builder.old (units_of (step_told builder.old (fields_of row.now)))) }
@@ -214,7 +213,7 @@ fn read_listed(builder: &mut PlanBuilder, row: &ByteRecord) -> Result<(), PlanFa
     }
 }
 
-// A release of the newest task.
+// Adds a release to the newest task.
 fn read_release(builder: &mut PlanBuilder, row: &ByteRecord) -> Result<(), PlanFault>
     ensures judged { IsJudged (release_record_fault builder.old (fields_of row.now)) result }
     ensures added { OnOk result (builder.new ≡ with_release builder.old (number_told (fields_of row.now) 1)) }
@@ -231,7 +230,7 @@ fn read_release(builder: &mut PlanBuilder, row: &ByteRecord) -> Result<(), PlanF
     }
 }
 
-// A record of a release list, which is of version 2.
+// A record of a release list, which only version 2 has.
 fn read_list_record(
     version: TextVersion,
     builder: &mut PlanBuilder,
@@ -272,7 +271,7 @@ fn read_record(
     }
 }
 
-/// One more record: the position goes on in place, so that no plan is moved. What a refused record leaves isn't said.
+/// Reads one more record, in place. After a refusal the position means nothing.
 #[tactic(auto, unfolding(crate::specs::Positions::position_fault, crate::specs::Positions::position_with))]
 pub(crate) fn advance(
     alloc: Global,

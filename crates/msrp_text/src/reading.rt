@@ -1,4 +1,4 @@
-//! Plan text, read.
+//! Plan text, read: each record is checked by itself, then by the builder.
 ghost use Rattle.std.specs.Prelude.{◌≡◌, ◌↔◌};
 ghost use Rattle.msrp_plan.specs.Common.{ℕ, List, Some, None, Ok, Err, true, source_failed, source_remaining};
 ghost use Rattle.std.specs.Result.{result_and};
@@ -21,13 +21,13 @@ use thiserror::Error;
 /// Why a text gave no plan.
 #[derive(Clone, Copy, Debug, Error, PartialEq, Eq)]
 pub enum TextError {
-    /// A record is refused, by its number, counted from 1. The end of the text counts as one more record.
+    /// A record is refused, by its number, counted from 1; the end counts as one more record.
     #[error("record {number}: {fault}")]
     At { fault: PlanFault, number: u32 },
     /// A read of the source failed.
     #[error("a read failed")]
     Read,
-    /// Memory was refused.
+    /// Out of memory.
     #[error("memory was refused")]
     Memory,
 }
@@ -38,9 +38,9 @@ const MOST_RECORDS: u32 = 4_294_967_294;
 // Why the records of a text gave no plan.
 #[derive(Clone, Copy)]
 enum Unread {
-    // A record is refused, a read failed, or memory was refused.
+    // A record is refused, a read failed, or memory ran out.
     Told(TextError),
-    // More records than can be numbered. A source gives far fewer bytes than so many take.
+    // More records than can be numbered. A source has far fewer bytes than these would take.
     TooMany,
 }
 
@@ -67,7 +67,7 @@ impl From<Stopped> for Unread {
     }
 }
 
-// The refusal of a record by its number. Want of memory is no refusal.
+// The refusal of a record by its number. Lack of memory isn't a refusal.
 fn refused(fault: PlanFault, number: u32) -> TextError
     ensures { result ≡ refusal fault number }
 {
@@ -103,8 +103,7 @@ fn end(position: Position, number: u32) -> Result<Plan, TextError>
     }
 }
 
-// One more record, where the line that was read ahead tells it and it has its place among the resources and tasks; else none is taken. Whether
-// one was.
+// Reads one more record if it is a usual line, read ahead, in its place; whether it did.
 fn take_usual<R: Read>(
     position: &mut Position,
     records: &mut RecordReader<R>,
@@ -157,13 +156,14 @@ fn read_records<R: Read>(alloc: Global, source: &mut Source<R>) -> Result<Plan, 
 
 /// The plan of a text, or its first refusal.
 ///
-/// A text is records of comma-separated fields: `msrp,1`, then `cores,M`, then `ticks,H`, then for each resource
-/// `resource,NAME`, and then for each task `task,NAME,CORE,PERIOD,DEADLINE,OFFSET` with its units after it: `op,run,N`
-/// for N units of work, `op,lock,NAME` and `op,unlock,NAME`. A text that begins with `msrp,2` may also have tasks that are
-/// released at the ticks of a list: `listed,NAME,CORE,DEADLINE`, then `release,TICK` for each release, then its units.
+/// A text is records of comma-separated fields: `msrp,1`, then `cores,M`, then `ticks,H`, then
+/// `resource,NAME` for each resource, then for each task `task,NAME,CORE,PERIOD,DEADLINE,OFFSET`
+/// and its units: `op,run,N` for N units of work, `op,lock,NAME` and `op,unlock,NAME`. After
+/// `msrp,2` there may also be tasks with listed releases: `listed,NAME,CORE,DEADLINE`, then
+/// `release,TICK` for each release, then the units.
 ///
-/// A record is judged by itself first: whether it is known and in its place (P2), its number of fields (P3) and
-/// its numbers (P4), and then by the builder of plans. The records before a read that fails are judged first.
+/// A record is checked by itself first: whether it is known and in place (P2), its number of fields
+/// (P3), its numbers (P4); then by the builder. Records before a failed read come first.
 ///
 /// Once a read of the source has failed, the answer is [`TextError::Read`] and no other.
 pub fn read_plan<R: Read>(alloc: Global, source: &mut Source<R>) -> Result<Plan, TextError>

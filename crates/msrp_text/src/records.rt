@@ -1,4 +1,4 @@
-//! The records of a text, read in turn.
+//! The records of a text, one by one: plain lines where they are, all others by `csv`.
 ghost use Rattle.std.specs.Prelude.{◌≡◌, ◌≤◌, ◌<◌, ◌+◌, ◌++◌, ◌∷◌, ◌^◌};
 ghost use Rattle.msrp_plan.specs.Common.{[], codes, ℕ, List, Some, None, Err, IfOk, IfErr, OnOk, OnErr, Ok, IsSome, option_map, length, take, true, false};
 ghost use Rattle.std.specs.Option.{IfSome};
@@ -25,19 +25,19 @@ pub enum Stopped {
     /// A read failed.
     #[error("a read failed")]
     Read,
-    /// Memory was refused.
+    /// Out of memory.
     #[error("memory was refused")]
     Memory,
 }
 
-// How the records are read: from plain lines, or, from the first line on that isn't plain, by `csv`.
+// How records are read: from plain lines or, from the first other line on, by `csv`.
 #[derive(Drop)]
 enum Way<R> {
     Lines(Lines<R>),
     Csv(CsvRecords<Lines<R>>),
 }
 
-// The way by `csv`, from where the lines stand.
+// The way by `csv`, from the current line on.
 fn by_csv<R: Read>(way: Way<R>, alloc: Global) -> (Way<R>, ())
     ensures same { KeepsRecords (left_at R.remaining way) (left_at R.remaining result.0) }
     ensures stop { stop_at result.0 ≡ stop_at way }
@@ -49,21 +49,22 @@ fn by_csv<R: Read>(way: Way<R>, alloc: Global) -> (Way<R>, ())
     }
 }
 
-/// The records of a text: fields between commas, no header row, records of any length, an empty line is no
-/// record.
+/// The records of a text: fields between commas, no header row; an empty line is no record.
 ///
-/// Plain lines are taken as they stand. A plain line isn't empty, has no quote, doesn't begin as a byte order mark does, is shorter than
-/// [`LONGEST`], and ends with LF, CR or CRLF. The first line that isn't plain and all that comes after it is read by `csv`.
+/// Plain lines are taken where they are: lines without a quote or a byte order mark, not empty,
+/// shorter than [`LONGEST`], that end with LF, CR or CRLF. `csv` reads the first other line and all
+/// that follows.
 #[derive(Drop)]
 pub struct RecordReader<R> {
     alloc: Global,
     way: Way<R>,
-    // How many empty lines stand before the record that `csv` has read last, where that is known: it can be of the first.
+    // The number of empty lines before the record that `csv` has read last, if known: for its first
+    // one.
     first: Option<u32>,
 }
 
 impl<R: Read> RecordReader<R> {
-    /// The records of all that a reader has left.
+    /// The records of the rest of a reader.
     pub fn new(alloc: Global, text: R) -> RecordReader<R>
         ensures left { records_left R.remaining result ≡ option_map csv_records (R.remaining text) }
         ensures goes { stop_of result ≡ None }
@@ -86,8 +87,8 @@ impl<R: Read> RecordReader<R> {
         }
     }
 
-    /// How many empty lines stand before the record that was read last. It is known as long as `csv` reads none, and of the first that it reads
-    /// mostly; each record before took one line then.
+    /// The number of empty lines before the record read last. Known until `csv` reads, and mostly
+    /// for the first record that it reads; until then each record took one line.
     pub fn empty_lines(&self) -> Option<u32>
         ensures value { result ≡ empty_before self.now }
         ensures line { (bytes : List ℕ) (number empty : ℕ) → HasRead R.remaining bytes number self.now → 1 ≤ number → result ≡ Some empty → BeginsIn bytes number (number + empty) }
@@ -99,7 +100,7 @@ impl<R: Read> RecordReader<R> {
         }
     }
 
-    /// The bytes that were read ahead, where the next record begins. There are none once `csv` reads.
+    /// The bytes read ahead, from the next record on; none once `csv` reads.
     pub fn ahead(&self) -> &[u8]
         ensures { result.now ≡ bytes_ahead self.now }
     {
@@ -109,10 +110,9 @@ impl<R: Read> RecordReader<R> {
         }
     }
 
-    /// Whether the text goes on with these two texts, of which the first is known to come next, as
-    /// from [`RecordReader::digit_after`]. The second ends with a line feed, which another end of a
-    /// line (CR, CRLF) may stand for. Where it does, that line is taken; else nothing is. No more is
-    /// read.
+    /// Takes the next line if it is these two texts, the first known to be next, as from
+    /// [`RecordReader::digit_after`], and the second with a line feed; CR or CRLF may replace that.
+    /// Otherwise takes nothing. Reads nothing more.
     #[inline(always)]
     pub fn meets_behind(&mut self, front: &[u8], line: &[u8]) -> bool
         requires { (after : List ℕ) × (bytes_ahead self.old ≡ front.now ++ after) }
@@ -133,7 +133,7 @@ impl<R: Read> RecordReader<R> {
         self.meets_apart(front, line)
     }
 
-    // The same, where the first text may not come, and the line may end in another way than by a line feed.
+    // As `meets_behind`, if the first text may not be next, or the line end differs.
     #[inline(never)]
     fn meets_apart(&mut self, front: &[u8], line: &[u8]) -> bool
         ensures taken { result ≡ true → (rest : List ℕ) → line.now ≡ rest ++ codes "\n" → is_plain (front.now ++ rest) ≡ true → GivesLine (records_left R.remaining self.old) (split_commas (front.now ++ rest)) (records_left R.remaining self.new) }
@@ -158,8 +158,9 @@ impl<R: Read> RecordReader<R> {
         }
     }
 
-    /// The second field of the next record, where it is one digit, the first field is that text, and both stand as they are at the front
-    /// of what was read ahead; else none, and nothing is known. Where no whole line was read ahead, more is read first.
+    /// The second field of the next record, if it is one digit after that first field, both
+    /// unquoted in the bytes read ahead; otherwise none, and nothing is known. Reads until a whole
+    /// line is there.
     #[inline(always)]
     pub fn digit_after(&mut self, first: &[u8]) -> Option<u8>
         ensures next { IfSome result (λ digit. is_plain_field first.now ≡ true → (left : List (List (List ℕ))) → records_left R.remaining self.new ≡ Some left → FirstBegins (first.now ∷ (digit ∷ []) ∷ []) left) }
@@ -173,7 +174,7 @@ impl<R: Read> RecordReader<R> {
         digit_after(self.ahead(), first)
     }
 
-    // Sees to it that a whole line is ahead, or as many bytes as the longest has, or all that comes.
+    // Makes a whole line available, or as many bytes as the longest has, or all that are left.
     #[inline(always)]
     fn look_ahead(&mut self)
         ensures same { KeepsRecords (records_left R.remaining self.old) (records_left R.remaining self.new) }
@@ -185,7 +186,7 @@ impl<R: Read> RecordReader<R> {
         }
     }
 
-    // Reads ahead until a whole line is there, or as many bytes as the longest has, or no more come.
+    // Reads until a whole line is there, or as many bytes as the longest has, or no more follow.
     #[inline(never)]
     fn read_line_ahead(&mut self)
         ensures same { KeepsRecords (records_left R.remaining self.old) (records_left R.remaining self.new) }
@@ -198,7 +199,7 @@ impl<R: Read> RecordReader<R> {
         {}
     }
 
-    // Reads more of the text ahead, and whether that gave a byte. Once `csv` reads it gives none.
+    // Reads ahead once more; whether a byte came. None does once `csv` reads.
     fn read_ahead(&mut self) -> bool
         ensures same { KeepsRecords (records_left R.remaining self.old) (records_left R.remaining self.new) }
         ensures stop { stop_of self.new ≡ stop_of self.old }
@@ -211,7 +212,7 @@ impl<R: Read> RecordReader<R> {
         }
     }
 
-    /// Takes so many of the bytes that were read ahead: a plain line with its end. Its fields were the next record.
+    /// Takes bytes read ahead: a plain line with its end, whose fields were the next record.
     #[inline]
     pub(crate) fn take_line(&mut self, count: usize)
         requires count { count ≤ length (bytes_ahead self.old) }
@@ -228,8 +229,8 @@ impl<R: Read> RecordReader<R> {
         }
     }
 
-    // The next record, where it is a plain line: its fields into `row`, and where it stands in the bytes that were read
-    // ahead. It is not taken. Where memory is refused for its fields, no read has failed before.
+    // The next record's fields in `row` if it is a plain line, and the line's length, without
+    // taking it. If memory runs out for its fields, no read has failed before.
     fn peek_line(&mut self, row: &mut ByteRecord) -> Result<Option<PlainLine>, AllocError>
         ensures line { IfOk result (λ found. IsPeeked (bytes_ahead self.new) (fields_of row.new) found) }
         ensures none { NoLine LONGEST (bytes_ahead self.new) → NoLine LONGEST (bytes_ahead self.old) }
@@ -246,7 +247,7 @@ impl<R: Read> RecordReader<R> {
         }
     }
 
-    // Whether no record is left, where that is known without `csv`. Where it is, no read has failed.
+    // Whether surely no record is left, as known without `csv`. Then no read has failed.
     fn is_at_end(&mut self) -> bool
         ensures same { KeepsRecords (records_left R.remaining self.old) (records_left R.remaining self.new) }
         ensures none { result ≡ true → HasNone (records_left R.remaining self.new) }
@@ -261,8 +262,8 @@ impl<R: Read> RecordReader<R> {
         }
     }
 
-    /// The next record into `row`, and whether there was one. A plain line that was read ahead is no reason to turn to `csv`, nor is
-    /// the end of the text.
+    /// Reads the next record into `row`; false at the end. Neither a plain line read ahead nor the
+    /// text's end needs `csv`.
     pub fn read(&mut self, row: &mut ByteRecord) -> Result<bool, Stopped>
         ensures next { IfOk result (λ found. (left : List (List (List ℕ))) → records_left R.remaining self.old ≡ Some left → GivesNext left found (fields_of row.new) (records_left R.remaining self.new)) }
         ensures goes { OnOk result (stop_of self.new ≡ None) }
@@ -288,7 +289,7 @@ impl<R: Read> RecordReader<R> {
         }
     }
 
-    // How many empty lines stand before the next record, where one begins with the next byte. That isn't known once `csv` reads.
+    // The number of empty lines before the record that begins with the next byte; unknown to `csv`.
     fn empty_ahead(&self) -> Option<u32>
         ensures { (bytes : List ℕ) (number empty : ℕ) → HasTakenBy R.remaining bytes number self.now.way → result ≡ Some empty → BeginsIn bytes (number + 1) (number + 1 + empty) }
     {
@@ -298,7 +299,7 @@ impl<R: Read> RecordReader<R> {
         }
     }
 
-    // From here on `csv` reads.
+    // Lets `csv` read from here on.
     fn turn(&mut self)
         ensures same { KeepsRecords (records_left R.remaining self.old) (records_left R.remaining self.new) }
         ensures stop { stop_of self.new ≡ stop_of self.old }
@@ -327,7 +328,7 @@ impl<R: Read> RecordReader<R> {
         }
     }
 
-    // Each read from here on fails, for that reason.
+    // Makes each later read fail, for that reason.
     fn stop(&mut self, why: Stopped) -> Result<bool, Stopped>
         requires { reads_csv self.old ≡ true }
         ensures fails { result ≡ Err why }

@@ -1,4 +1,5 @@
-//! The lines that a plan mostly consists of, read as they stand: `op,run,N`, `op,lock,NAME`, `op,unlock,NAME` and `release,TICK`.
+//! A short way for a plan's usual lines: `op,run,N`, `op,lock,NAME`, `op,unlock,NAME`,
+//! `release,TICK`.
 ghost use Rattle.std.specs.Prelude.{◌≡◌, ◌==◌};
 ghost use Rattle.msrp_plan.specs.Common.{ℕ, List, Some, None, codes, false};
 ghost use Rattle.std.specs.Option.{IfSome};
@@ -11,8 +12,8 @@ use crate::front::PlainLine;
 use crate::positions::resource_told;
 use msrp_plan::{PlanBuilder, PlanFault, ResId, Step, TextVersion};
 
-// The last field of a line at the front of a text, and the end of the line. It is found where each byte of the field comes after the comma,
-// as those of numbers and names do.
+// The last field of a line at the front of a text, and the line's end, if each byte of the field is
+// above the comma, as in numbers and names.
 fn last_field(text: &[u8]) -> Option<PlainLine>
     ensures { IfSome result (λ field. IsLast text.now field) }
 {
@@ -37,7 +38,7 @@ fn last_field(text: &[u8]) -> Option<PlainLine>
     None
 }
 
-// The number that stands behind these words, and the bytes of the line.
+// The number after these words, and the bytes of the line.
 #[inline(always)]
 fn number_behind(text: &[u8], front: &[u8]) -> Option<(u32, usize)>
     ensures { IfSome result (λ found. (field : List ℕ) × StandsBehind text.now front.now field (found.1) × (number_of field ≡ Some (found.0))) }
@@ -48,7 +49,7 @@ fn number_behind(text: &[u8], front: &[u8]) -> Option<(u32, usize)>
     Some((number, front.len() + field.taken))
 }
 
-// The resource whose name stands behind these words, and the bytes of the line.
+// The resource whose name follows these words, and the bytes of the line.
 #[inline(always)]
 fn resource_behind(builder: &PlanBuilder, text: &[u8], front: &[u8]) -> Option<(ResId, usize)>
     ensures { IfSome result (λ found. (field : List ℕ) × StandsBehind text.now front.now field (found.1) × (found.0 ≡ resource_told builder.now (text_of field))) }
@@ -59,7 +60,7 @@ fn resource_behind(builder: &PlanBuilder, text: &[u8], front: &[u8]) -> Option<(
     Some((res, front.len() + field.taken))
 }
 
-// The units that the line at the front of a text tells, and its bytes. The fourth byte says which of the three it can be.
+// The units of the line at a text's front, and its bytes; its fourth byte selects one of three.
 fn step_ahead(builder: &PlanBuilder, text: &[u8]) -> Option<(Step, usize)>
     ensures { IfSome result (λ found. TellsStep builder.now text.now (found.0) (found.1)) }
 {
@@ -83,7 +84,7 @@ fn step_ahead(builder: &PlanBuilder, text: &[u8]) -> Option<(Step, usize)>
     }
 }
 
-// Adds the release that the line at the front of a text of version 2 tells, as the next function does.
+// Adds the release of the line at the front of a text of version 2, as [`add_ahead`] does.
 fn add_release_ahead(
     builder: &mut PlanBuilder,
     text: &[u8],
@@ -98,8 +99,8 @@ fn add_release_ahead(
     Some((builder.release(tick), taken))
 }
 
-/// Adds what the line at the front of a text tells, where it is one of these and has its place: how that was judged, and the bytes of the line
-/// with its end. What a refused line leaves isn't said.
+/// Adds what the line at the front of a text says, if it is a usual one in its place: the answer,
+/// and the line's bytes with its end. After a refusal the plan means nothing.
 pub(crate) fn add_ahead(
     version: TextVersion,
     builder: &mut PlanBuilder,

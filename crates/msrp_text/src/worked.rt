@@ -1,5 +1,5 @@
-//! Worked examples, computed from the definitions alone: texts, byte by byte, with the plan that they tell or
-//! the refusal. Each function does nothing; its contract is the example.
+//! Worked examples, computed from the definitions alone: texts, byte by byte, with their plan or
+//! refusal. Each function does nothing; its contract is the example.
 ghost use Rattle.std.specs.Prelude.{◌≡◌, ◌++◌};
 ghost use Rattle.msrp_plan.specs.Common.{codes, Ok};
 ghost use Rattle.msrp_plan.specs.declared.faults.PlanFault.TheVariants.{Limit};
@@ -8,8 +8,8 @@ ghost use Rattle.msrp_text.specs.Reading.{csv_records, plan_of};
 ghost use Rattle.msrp_text.specs.Examples.{bare_list, head, listed_head, listed_plan, locking_plan, offset_plan, one_task_plan, refused};
 ghost use Rattle.msrp_plan.specs.declared.faults.PlanFault.TheVariants.{Version, OutOfPlace, FieldCount, Number, Name, Taken, Undeclared, Core, NoUnit, Releases};
 
-/// One task, which works for two ticks of three; also with its work told in two records, and with fields in
-/// quotes and lines that end as they do on other systems.
+/// One task that works for two ticks of three; also with its work in two records, with quoted
+/// fields, and with other systems' line ends.
 pub fn one_task()
     ensures plain { plan_of (csv_records (codes "msrp,1\ncores,1\nticks,3\ntask,a,0,3,3,0\nop,run,2\n")) ≡ Ok one_task_plan }
     ensures two_runs { plan_of (csv_records (codes "msrp,1\ncores,1\nticks,3\ntask,a,0,3,3,0\nop,run,1\nop,run,1\n")) ≡ Ok one_task_plan }
@@ -30,7 +30,7 @@ pub fn first_records()
     ensures too_many_ticks { plan_of (csv_records (codes "msrp,1\ncores,1\nticks,20001\n")) ≡ refused Limit 3 }
 {}
 
-/// Records of tasks, after the first three with one core.
+/// Records of tasks, after the first three for one core.
 pub fn tasks()
     ensures three_numbers { plan_of (csv_records (head ++ codes "task,a,0,7,5,2\nop,run,1\n")) ≡ Ok offset_plan }
     ensures capital { plan_of (csv_records (head ++ codes "task,A,0,3,3,0\n")) ≡ refused Name 4 }
@@ -50,7 +50,7 @@ pub fn resources()
     ensures after_a_task { plan_of (csv_records (head ++ codes "task,a,0,3,3,0\nresource\n")) ≡ refused OutOfPlace 5 }
 {}
 
-/// Records of release lists, which are of version 2.
+/// Records of release lists, which only version 2 has.
 pub fn release_lists()
     ensures listed { plan_of (csv_records (bare_list ++ codes "release,1\nrelease,3\nop,run,1\n")) ≡ Ok listed_plan }
     ensures of_version_one { plan_of (csv_records (head ++ codes "listed,a,0,4\n")) ≡ refused OutOfPlace 4 }
@@ -83,7 +83,7 @@ pub fn units()
     ensures no_such_resource { plan_of (csv_records (head ++ codes "task,a,0,3,3,0\nop,lock,r\n")) ≡ refused Undeclared 5 }
 {}
 
-/// Lines in which records begin: behind lines that end with LF, CR or CRLF, empty ones too, and behind a field that goes over the end of a line.
+/// Lines in which records begin: after LF, CR or CRLF, empty lines, and a field with a line end.
 pub fn record_lines()
     ensures first { BeginsIn (codes "a\nb\n") 1 1 }
     ensures second { BeginsIn (codes "a\nb\n") 2 2 }

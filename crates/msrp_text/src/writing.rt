@@ -1,4 +1,4 @@
-//! Plan text, written.
+//! Plan text, written: one text for each plan, which reads back as that plan.
 ghost use Rattle.std.specs.Prelude.{◌≡◌, ◌<◌, ◌+◌, ◌^◌, ◌++◌, ◌∷◌};
 ghost use Rattle.msrp_plan.specs.Common.{[], length, map, codes, decimal, OnOk, OnErr, true, false, flat_map, Wrote, sink_failed, task_at, Every, Listed, listed_ticks, IsPlan};
 ghost use Rattle.msrp_text.specs.PlanText.{declaration, head_records, plan_text, record_text, records_text, release_record, resource_record, steps_of, task_records, times_records, version_of, version_record};
@@ -8,7 +8,7 @@ use msrp_plan::bytes::Sink;
 use msrp_plan::{JobId, Op, Plan, ResId, TaskId, TextVersion, Times, WriteFault};
 use std::io::Write;
 
-// The version that the plan's text wants: listed tasks are of version 2.
+// The version that the plan's text needs: 2 if it has a listed task.
 fn version_of(plan: &Plan) -> TextVersion
     ensures { result ≡ version_of plan.now }
 {
@@ -117,7 +117,7 @@ fn write_times<W: Write>(out: &mut Sink<W>, plan: &Plan, task: TaskId)
     }
 }
 
-// So many units of work, if there are any.
+// A run of work, unless it is empty.
 fn write_run<W: Write>(out: &mut Sink<W>, plan: &Plan, count: u32)
     ensures { Wrote W.contents out.old out.new (steps_text plan.now (run_steps count)) }
 {
@@ -126,7 +126,7 @@ fn write_run<W: Write>(out: &mut Sink<W>, plan: &Plan, count: u32)
     }
 }
 
-// One unit more, after so many units of work that are not written yet: how many are not after it.
+// Writes a unit after `run` unwritten units of work; returns how many are unwritten after it.
 fn write_unit<W: Write>(out: &mut Sink<W>, plan: &Plan, run: u32, unit: Op) -> u32
     requires named { IsNamedUnit plan.now unit }
     requires room { run + 1 < 2 ^ 32 }
@@ -148,7 +148,7 @@ fn write_unit<W: Write>(out: &mut Sink<W>, plan: &Plan, run: u32, unit: Op) -> u
     }
 }
 
-// The units of a task, adjacent units of work in one record.
+// The units of a task, with adjacent units of work in one record.
 fn write_units<W: Write>(out: &mut Sink<W>, plan: &Plan, task: TaskId)
     requires plan { IsPlan plan.now }
     requires task { task.0 < length plan.now.tasks }
@@ -178,8 +178,8 @@ fn write_tasks<W: Write>(out: &mut Sink<W>, plan: &Plan)
     }
 }
 
-/// Writes a plan as text, in version 1 unless a task is released by a list. Read again it gives an equal plan. Adjacent
-/// units of work are one record. After a write fault what was written is a first part of the text.
+/// Writes a plan as text: version 2 if it has a listed task, otherwise 1. It reads back as an equal
+/// plan. Adjacent units of work are one record. On a write fault the output is a prefix of it.
 pub fn write_plan<W: Write>(out: &mut Sink<W>, plan: &Plan) -> Result<(), WriteFault>
     ensures plan { IsPlan plan.now }
     ensures wrote { Wrote W.contents out.old out.new (plan_text plan.now) }

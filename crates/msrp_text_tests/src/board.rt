@@ -1,5 +1,5 @@
-//! Boards that run, on one thread and on several. The calls below make sure at run time of what each call wants, by
-//! the seat's readers.
+//! Boards that run, on one thread and on several. The calls below check each call's preconditions
+//! at run time, by the seat's readers.
 ghost use Rattle.std.specs.Prelude.{◌≡◌, ◌<◌, ◌≤◌};
 ghost use Rattle.msrp_plan.specs.Common.{length, IfOk, IfSome, All};
 ghost use Rattle.std.specs.Thread.{IsSync};
@@ -113,7 +113,7 @@ fn abort(rt: &impl Abort, board: &Board, seat: &mut BoardSeat)
     board.abort(seat);
 }
 
-/// Makes sure that the seat holds all books, and ends the board.
+/// Checks that the seat has all books, and ends the board.
 fn end(rt: &impl Abort, board: Board, cores: u32, seat: BoardSeat) -> Settled
     requires { (seat.board ≡ board) × (board.size.cores ≡ cores) }
     ensures { result.size ≡ board.size }
@@ -131,7 +131,7 @@ fn end(rt: &impl Abort, board: Board, cores: u32, seat: BoardSeat) -> Settled
     board.settle(seat)
 }
 
-/// A board of two cores and one resource with its seats: the conductor's and those of the two cores.
+/// A board of two cores and one resource, with the conductor's seat and those of the cores.
 fn two(rt: &impl Abort, alloc: Global, ticks: u32) -> (Board, BoardSeat, BoardSeat, BoardSeat)
     ensures size { (result.0.size.cores ≡ 2) × (result.0.size.resources ≡ 1) }
     ensures seats { (result.1.board ≡ result.0) × IsCoreSeatOn result.0 result.2 × IsCoreSeatOn result.0 result.3 }
@@ -183,7 +183,8 @@ fn next_tick(rt: &impl Abort, board: &Board, zero: &mut BoardSeat, one: &mut Boa
     enter_both(rt, board, zero, one);
 }
 
-/// What both cores request in tick 0, and what the second polls in tick 1. Both are let into tick 2.
+/// The answers to both requests in tick 0, and to the second core's poll in tick 1; both enter tick
+/// 2.
 fn ask_both(
     rt: &impl Abort,
     board: &Board,
@@ -203,8 +204,8 @@ fn ask_both(
     (asked, polled)
 }
 
-/// What the second core polls in ticks 2 and 3, before and after the first one releases in tick 2, and the places of both
-/// releases. Both have arrived from tick 5.
+/// The second core's polls in ticks 2 and 3, before and after the first core's release in tick 2,
+/// and the places of both releases. Both have arrived from tick 5.
 fn hand_over(
     rt: &impl Abort,
     board: &Board,
@@ -227,8 +228,8 @@ fn hand_over(
     ([before, after], [left, left_last])
 }
 
-/// Each core's place and answer, and the word, in the order in which the core that polls comes before the core that
-/// releases in tick 2, and so is not granted before tick 3.
+/// Each core's places and answers, and the word, if the core that polls goes before the core that
+/// releases in tick 2, and so is granted only in tick 3.
 #[test]
 fn handover_takes_the_next_poll(rt: HostRuntime) {
     let (board, mut rest, mut zero, mut one) = two(&rt, rt.alloc(), 6);
@@ -344,7 +345,7 @@ fn lap(rt: &impl Abort, board: &Board, seat: &mut BoardSeat, res: ResId, tick: u
     arrive(rt, board, seat);
 }
 
-/// The seat of a core, and which core it is.
+/// A core's number and seat.
 #[derive(Drop)]
 struct Player {
     seat: BoardSeat,
@@ -378,7 +379,7 @@ fn deal(
     Ok((players, rest))
 }
 
-/// One seat with the books of all.
+/// One seat with all books.
 fn gather(board: &Board, mut players: Vec<Player>, rest: BoardSeat) -> BoardSeat
     requires { All (λ p. IsCoreSeatOn board.now p.seat) players.items × (rest.board ≡ board.now) }
     ensures { result.board ≡ board.now }
@@ -430,7 +431,7 @@ fn board_of(
     (board, seat)
 }
 
-/// Each core in turn, in each of so many ticks.
+/// Each core in turn, in each of these ticks.
 fn run_laps(rt: &impl Abort, board: &Board, players: Vec<Player>, ticks: u32) -> Vec<Player>
     requires { All (λ p. IsCoreSeatOn board.now p.seat) players.items × (board.now.size.resources ≡ 32) }
     ensures { All (λ p. IsCoreSeatOn board.now p.seat) result.items }
@@ -462,7 +463,7 @@ fn longest_run_is_counted(rt: HostRuntime) -> Result<(), Fail> {
     Ok(())
 }
 
-/// What a core was answered. The order is that of the history of its resource.
+/// An answer to a core, with what orders it in the history of its resource.
 #[derive(Clone, Copy, PartialEq, Eq, PartialOrd, Ord)]
 struct Answered {
     res: u32,
@@ -480,7 +481,7 @@ enum Made {
     Leave,
 }
 
-/// A source of numbers that look random (Knuth's multiplier).
+/// A source of pseudo-random numbers (Knuth's multiplier).
 #[derive(Drop)]
 struct Numbers(u64);
 
@@ -497,7 +498,7 @@ impl Numbers {
     }
 }
 
-/// What a core does in a tick to which it was let in, and what it was answered.
+/// What a core does in a tick that it was let into, and the answer.
 fn act(
     rt: &impl Abort,
     board: &Board,
@@ -534,7 +535,7 @@ fn act(
     })
 }
 
-/// A core's run to its end, as long as the others come to the barrier within so many looks.
+/// A core's run to its end, if the others reach the barrier within a number of looks.
 fn play(rt: &impl Abort, board: &Board, player: Player) -> Option<Player>
     requires { IsCoreSeatOn board.now player.seat × (board.now.size.resources ≡ 3) }
     ensures { IfSome result (λ p. IsCoreSeatOn board.now p.seat) }
@@ -578,7 +579,7 @@ fn play_all<R: Threads + Abort + Sync>(
     )
 }
 
-/// A first-in-first-out lock, as one thread would keep it.
+/// A first-in-first-out lock on one thread.
 #[derive(Drop)]
 struct Queue {
     cores: Vec<u32>,
@@ -589,7 +590,7 @@ struct Queue {
 }
 
 impl Queue {
-    /// Whether the lock answers so, which is then done.
+    /// Does the step if the lock gives this answer; whether it does.
     fn answers(&mut self, answered: Answered) -> Result<bool, AllocError> {
         let is_first = self.cores.first() == Some(&answered.core);
         let place = self.requests.wrapping_add(self.releases);
@@ -624,7 +625,7 @@ impl Queue {
     }
 }
 
-/// The answers on one resource are the lock's, and how many requests and releases there are.
+/// The number of requests and releases of one resource, if the answers are the lock's.
 fn replay(alloc: Global, history: &[Answered], res: u32) -> Result<Option<(u32, u32)>, AllocError> {
     let mut queue = Queue {
         cores: Vec::new(alloc),
@@ -641,7 +642,7 @@ fn replay(alloc: Global, history: &[Answered], res: u32) -> Result<Option<(u32, 
     Ok(Some((queue.requests, queue.releases)))
 }
 
-/// One seat with the books of all that played.
+/// One seat with the books of all players.
 fn gather_played(
     rt: &impl Abort,
     board: &Board,
@@ -661,8 +662,8 @@ fn gather_played(
     all
 }
 
-/// What threads were answered, one for each core, in the order of the histories, is what one thread would have
-/// answered. The cores together were answered more often than there are ticks, so the threads did something.
+/// The answers to the threads, one for each core, in the order of the histories, are those of a
+/// one-thread lock. There are more of them than ticks, so the threads did something.
 fn check_threads<R: Threads + Abort + Sync>(
     rt: &R,
     alloc: Global,

@@ -1,6 +1,6 @@
 //! Tests of the crates that read and write texts, and of the board on which threads meet.
 //!
-//! They stand above those crates, which are proved once, without them.
+//! They are in a crate above those, which are proved once, without them.
 #![tactic(auto)]
 
 #[cfg(test)]

@@ -1,4 +1,4 @@
-//! Records over readers that fail or give a text in pieces.
+//! Records over readers that fail or return a text in pieces.
 
 use csv::ByteRecord;
 use msrp_text::records::{RecordReader, Stopped};
@@ -7,7 +7,7 @@ use std::io;
 use std::io::{ErrorKind, Read};
 use std::test::Fail;
 
-// Gives its text a byte a call, and fails at one call.
+// Returns its text a byte a call, and fails at one call.
 #[derive(Drop)]
 pub(crate) struct Halting<'a> {
     text: &'a [u8],
@@ -63,7 +63,7 @@ fn records_end_for_good(rt: HostRuntime) {
     assert!(rt; matches!(records.read(&mut row), Ok(false)));
 }
 
-// Gives its text so many bytes a call.
+// Returns this many bytes of its text a call.
 #[derive(Drop)]
 struct Pieces<'a> {
     text: &'a [u8],
@@ -89,7 +89,7 @@ fn tell(told: &mut Vec<u8>, row: &ByteRecord) -> Result<(), Fail> {
     Ok(())
 }
 
-// The records that a reader has left, as `tell` writes them, and an exclamation mark where it stops before the end.
+// The remaining records, as `tell` writes them, and an exclamation mark if the reader stops early.
 fn records_told<R: Read>(alloc: Global, records: &mut RecordReader<R>) -> Result<Vec<u8>, Fail> {
     let mut row = ByteRecord::new(alloc);
     let mut told = Vec::new(alloc);
@@ -124,13 +124,13 @@ const TOLD: [(&[u8], &[u8]); 8] = [
     (b"\n\r\n", b""),
 ];
 
-// The records of a text of which each read gives so many bytes.
+// The records of a text that is read in pieces of this size.
 fn told_in_pieces(alloc: Global, text: &[u8], size: usize) -> Result<Vec<u8>, Fail> {
     let mut records = RecordReader::new(alloc, Pieces { text, size });
     records_told(alloc, &mut records)
 }
 
-// The records of a text of which one read fails, and those that are left then.
+// The records of a text with one failing read, and those that are left then.
 fn told_twice(alloc: Global, text: &[u8], call: u32) -> Result<(Vec<u8>, Vec<u8>), Fail> {
     let mut records = RecordReader::new(alloc, halt_at(text, call));
     let told = records_told(alloc, &mut records)?;
@@ -148,7 +148,7 @@ fn records_in_pieces(rt: HostRuntime) -> Result<(), Fail> {
     Ok(())
 }
 
-// Each record that is whole before the read that fails is given, and then each read fails.
+// Each record that is complete before the failing read is returned; then each read fails.
 #[test]
 fn records_before_a_read_fails(rt: HostRuntime) -> Result<(), Fail> {
     let text = b"a,b\r\nc\n\"d\"\ne\n";
@@ -182,7 +182,7 @@ fn records_before_a_read_fails(rt: HostRuntime) -> Result<(), Fail> {
     Ok(())
 }
 
-// Lines over the border of what is read ahead, and one that is longer than a line may be that is taken as it stands.
+// Lines across the end of what is read ahead, and one just too long to be taken as it is.
 #[test]
 fn records_over_the_border(rt: HostRuntime) -> Result<(), Fail> {
     let mut text = Vec::new(rt.alloc());
@@ -204,12 +204,12 @@ fn records_over_the_border(rt: HostRuntime) -> Result<(), Fail> {
     Ok(())
 }
 
-// Whether a line comes: a first text, a digit between commas, and the rest with a line feed. Then it is taken.
+// Takes the next line if it is a text, a digit between commas, and the rest with a line feed.
 fn meets<R: Read>(records: &mut RecordReader<R>, front: &[u8], line: &[u8]) -> bool {
     records.digit_after(front).is_some() && records.meets_behind(front, line)
 }
 
-// Whether a line is met after a first record, and the records after it.
+// Whether a line is met after a first record, and the later records.
 fn met_after_one(
     alloc: Global,
     text: &[u8],
@@ -225,7 +225,7 @@ fn met_after_one(
     Ok((met, records_told(alloc, &mut records)?))
 }
 
-// A text, a line in two parts, of which the second has a line feed where it may be met, whether it is met after the first record, and the records that are left.
+// A text, a line in two parts, whether it is met, and the records left.
 const FORESEEN: [(&[u8], &[u8], &[u8], bool, &[u8]); 14] = [
     (b"1\nab,2,c\nd", b"ab", b",2,c\n", true, b"d|/"),
     (b"1\nab,2,c\r\nd", b"ab", b",2,c\n", true, b"d|/"),
@@ -266,7 +266,7 @@ const LINES: (&[u8], [(&[u8], &[u8]); 6]) = (
     ],
 );
 
-// How many of the lines are met, where each read gives so many bytes.
+// The number of lines met, with reads of this size.
 fn lines_met(alloc: Global, size: usize) -> Result<usize, Fail> {
     let (text, lines) = LINES;
     let mut records = RecordReader::new(alloc, Pieces { text, size });
@@ -283,7 +283,7 @@ fn lines_met(alloc: Global, size: usize) -> Result<usize, Fail> {
     }
 }
 
-// With each number of bytes a read all lines are met, those too of which a read brings only a part.
+// With reads of every size all lines are met, even lines read in parts.
 #[test]
 fn foreseen_lines_in_pieces(rt: HostRuntime) -> Result<(), Fail> {
     for size in 1..=40usize {

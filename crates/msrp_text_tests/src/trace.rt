@@ -1,4 +1,4 @@
-//! Tests on texts: worked traces, rows that are foreseen, and readers that have ended.
+//! Tests on trace text: worked traces, rows compared by their text, and readers that have ended.
 
 use crate::text::halt_at;
 use msrp_plan::bytes::{Sink, Source};
@@ -11,7 +11,7 @@ use std::test::Fail;
 
 // ---- the plan
 
-// Two cores and one resource, which task a of core 0 and task b of core 1 want in tick 0.
+// Two cores and one resource, which task a of core 0 and task b of core 1 request in tick 0.
 const PLAN: &[u8] =
     b"msrp,1\ncores,2\nticks,6\nresource,g\ntask,a,0,20,8,0\nop,lock,g\nop,run,1\nop,unlock,g\ntask,b,1,20,8,0\nop,lock,g\nop,run,1\nop,unlock,g\n";
 
@@ -30,7 +30,7 @@ const VERSION_ONE: &[u8] =
 const VERSION_TWO: &[u8] =
     b"msrp-trace,2,2,6\n0,0,take,a,0,g,-\n0,1,queue,b,0,g,1\n1,0,run,a,0,-,-\n1,1,spin,b,0,g,-\n2,0,release,a,0,g,-\n2,1,grant,b,0,g,-\n3,0,idle,-,-,-,-\n3,1,run,b,0,-,-\n4,0,idle,-,-,-,-\n4,1,release,b,0,g,-\n5,0,idle,-,-,-,-\n5,1,idle,-,-,-,-\n";
 
-// The rows that a reader has left, or its refusal.
+// The remaining rows of a reader, or its refusal.
 fn rows_left<R: Read>(alloc: Global, reader: &mut TraceReader<'_, R>) -> Result<Trace, TraceError> {
     let mut rows = Vec::new(alloc);
     for _ in 0..u64::MAX {
@@ -63,7 +63,7 @@ fn read_text(alloc: Global, text: &[u8], plan: &Plan) -> Result<Trace, TraceErro
     read_all(alloc, &mut source, plan)
 }
 
-// Writes a trace, if its rows have what its text wants; and whether it was written.
+// Writes a trace if its text can be written; whether it was.
 fn write_all<W: Write>(
     writer: &mut Sink<W>,
     plan: &Plan,
@@ -81,7 +81,7 @@ fn write_all<W: Write>(
     }
 }
 
-// A text, the version that is written, and what is written.
+// A text, a version, and the text written in that version.
 const AGAIN: [(&[u8], TextVersion, &[u8]); 3] = [
     (VERSION_ONE, TextVersion::V1, VERSION_ONE),
     (VERSION_TWO, TextVersion::V2, VERSION_TWO),
@@ -104,8 +104,7 @@ fn texts_are_read_and_written_again(rt: HostRuntime) -> Result<(), Fail> {
     Ok(())
 }
 
-// Whether each of these rows is met, in turn, by the text that is made of it, and none before that
-// is made, nor in another tick.
+// Whether each of these rows in turn is met by its own text, once made, and in its own tick only.
 fn meets_each<R: Read>(plan: &Plan, reader: &mut TraceReader<'_, R>, rows: &[Row]) -> bool {
     for row in rows.iter() {
         let mut texts = RowTexts::new(plan, reader.version());
@@ -170,7 +169,7 @@ fn faults_have_their_codes(rt: HostRuntime) {
     }
 }
 
-// Whether a trace is opened of which one read fails, where each read gives a byte.
+// Whether a trace can be opened with one failing read, where each read returns a byte.
 fn opens(alloc: Global, plan: &Plan, call: u32) -> Result<(), TraceError> {
     let mut source = Source::new(halt_at(VERSION_ONE, call));
     let reader = TraceReader::new(alloc, &mut source, plan)?;

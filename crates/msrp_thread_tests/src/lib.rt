@@ -1,6 +1,6 @@
 //! Tests of runs on threads.
 //!
-//! They stand above the crate that runs plans, which is proved once, without them.
+//! They are in a crate above the one that runs plans, which is proved once, without them.
 #![tactic(auto)]
 
 #[cfg(test)]

@@ -1,5 +1,5 @@
-//! Threads that really run: their turns are made side by side, a refused thread stops all of them, and runs end. And the turns of two
-//! cores on one thread, in an order that is chosen.
+//! Real threads: turns in parallel, a failed thread that stops all, runs that end; and the turns of
+//! two cores on one thread, in a chosen order.
 
 mod ending;
 mod meeting;

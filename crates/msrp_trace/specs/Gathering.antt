@@ -1,4 +1,4 @@
--- Text on its way to a sink: what was gathered, and what was written.
+-- Text on its way to a sink: what is gathered, and what is written.
 use Rattle.std.specs.Prelude.{◌≡◌, ◌++◌}
 use Rattle.msrp_plan.specs.Common.{ℕ, List, codes, decimal, Option, flat_map, PlanModel, Wrote}
 use Rattle.msrp_plan.specs.Words.{kind_text}
@@ -7,13 +7,13 @@ use Rattle.msrp_plan.specs.declared.rows.TextVersion.{TextVersion}
 use Rattle.msrp_plan.specs.declared.bytes.Sink.{Sink}
 use Rattle.msrp_trace.specs.TraceText.{ahead_fields, job_text, res_text, task_text}
 
--- a page and the sink under it took a text: what the page then lacks of it, and of what it had, was written
+-- a page and its sink took a text: what the page hasn't kept of both texts was written
 pub record Gathers {W : Type 0} (contents : W → Option (List ℕ)) (before : List ℕ) (old : Sink W) (after : List ℕ) (new : Sink W) (text : List ℕ) : Type 0 where
   pub written : List ℕ
   pub wrote : Wrote contents old new written
   pub rest : before ++ text ≡ written ++ after
 
--- a writer of trace text: the plan and the version, and what was gathered and is not written yet
+-- a writer of trace text: the plan and the version, and what is gathered and not written yet
 pub record WriterModel : Type 0 where
   pub plan : PlanModel
   pub version : TextVersion

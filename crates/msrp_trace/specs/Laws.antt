@@ -1,4 +1,4 @@
--- Rows that were written, as they are read.
+-- Written rows, as they are read.
 use Rattle.std.specs.Prelude.{◌&&◌}
 use Rattle.msrp_plan.specs.Common.{ℕ, Bool, true, is_none, nat_lt, Option, Some, None, carries_its_ahead, without_ahead, PlanModel}
 use Rattle.msrp_plan.specs.declared.ids.JobId.{JobId}
@@ -19,16 +19,16 @@ abbrev pub has_short_ahead : Option ℕ → Bool
 has_short_ahead None = true
 has_short_ahead (Some n) = is_short n
 
--- each number of the row is one
+-- each number of the row is short
 abbrev pub has_short_numbers : Row → Bool
 has_short_numbers r = is_short r.tick && (is_short r.core.0 && (has_short_job r.job && has_short_ahead r.ahead))
 
--- the row that is read where this one was written: version 1 leaves out its ahead
+-- the row read where this one was written: version 1 omits its ahead
 abbrev pub as_read : TextVersion → Row → Row
 as_read V1 r = without_ahead r
 as_read V2 r = r
 
--- the row has an ahead as its version tells one: version 1 tells none, and version 2 that of each queue row
+-- the row's ahead fits its version: none in version 1, one in each queue row in version 2
 abbrev pub has_told_ahead : TextVersion → Row → Bool
 has_told_ahead V1 r = is_none r.ahead
 has_told_ahead V2 r = carries_its_ahead r

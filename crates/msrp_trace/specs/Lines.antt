@@ -1,4 +1,4 @@
--- The record that a core had last, but for its tick.
+-- A core's last record, without its tick.
 use Rattle.std.specs.Prelude.{◌≡◌, ◌≤◌, ◌++◌, ◌&&◌, ◌==◌}
 use Rattle.msrp_plan.specs.Common.{length, ℕ, List, Option, Some, Bool, is_none, All, same_res, PlanModel, same_choice}
 use Rattle.msrp_plan.specs.declared.rows.Row.{Row}
@@ -29,11 +29,11 @@ IsJobText plan kept = IfSome kept.job (λ j. kept.text ≡ job_fields plan (Some
 abbrev pub IsResText : PlanModel → ResText → Type 0
 IsResText plan kept = IfSome kept.res (λ g. (kept.text ≡ next_field (res_text plan (Some g))) × (length kept.text ≤ 17))
 
--- the texts that are kept are those of the resources
+-- the stored texts are those of the resources
 abbrev pub AreResTexts : PlanModel → ResTexts → Type 0
 AreResTexts plan texts = All (IsResText plan) texts.kept
 
--- what is kept of a core is the text of the job that it ran last
+-- the stored text is that of the job that the core ran last
 pub record IsCoreText (plan : PlanModel) (kept : CoreText) : Type 0 where
   pub job : IsJobText plan kept.job
 

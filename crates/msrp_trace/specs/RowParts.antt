@@ -1,4 +1,4 @@
--- What a record tells as a row, part by part, in the order of judging.
+-- A record's row, part by part, in the order of the checks.
 use Rattle.msrp_plan.specs.Common.{ℕ, List, Option, Some, None, Err, IsOkAnd, unwrap_or, PlanModel}
 use Rattle.msrp_plan.specs.declared.rows.Row.{Row}
 use Rattle.msrp_plan.specs.declared.rows.TextVersion.{TextVersion}
@@ -11,7 +11,7 @@ use Rattle.msrp_trace.specs.declared.faults.TraceFault.{TraceFault}
 use Rattle.msrp_trace.specs.declared.rows.Names.{Names}
 use Rattle.msrp_trace.specs.declared.rows.Numbers.{Numbers}
 
--- the numbers of a row, if all are there that have to be
+-- the numbers of a row, if all required ones are there
 abbrev pub numbers_told : TextVersion → List (List ℕ) → Option Numbers
 numbers_told version fields =
     if lacks_number version fields then None else Some (record { tick = unwrap_or (number_at fields 0) 0; core = unwrap_or (number_at fields 1) 0; job = unwrap_or (job_told fields) None; ahead = unwrap_or (ahead_told version fields) None })
@@ -20,12 +20,12 @@ numbers_told version fields =
 abbrev pub names_told : PlanModel → List (List ℕ) → Option Names
 names_told plan fields = if lacks_name plan fields then None else Some (record { task = unwrap_or (task_told plan fields) None; res = unwrap_or (res_told plan fields) None })
 
--- a record that breaks a rule is refused with it, and any other gives its row
+-- a record that violates a rule is refused with it; any other gives its row
 abbrev pub Reads : Option TraceFault → Option Row → Result Row TraceFault → Type 0
 Reads (Some fault) told result = result ≡ Err fault
 Reads None told result = IsOkAnd result (λ r. told ≡ Some r)
 
--- the same, and the refusal carries the record's number
+-- a refused record has its number, any other gives its row
 abbrev pub ReadsAt : ℕ → Option TraceFault → Option Row → Result Row TraceError → Type 0
 ReadsAt number (Some fault) told result = result ≡ Err (At fault number)
 ReadsAt number None told result = IsOkAnd result (λ r. told ≡ Some r)

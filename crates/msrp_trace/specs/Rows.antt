@@ -1,4 +1,4 @@
--- The row that a record tells, or the first rule that the record breaks.
+-- The row of a record, or the first rule that the record violates.
 use Rattle.msrp_plan.specs.Common.{ℕ, Bool, true, false, not, List, [], length, map, Option, Some, None, is_none, option_map, unwrap_or, option_and_then, bytes_eq, name_position, PlanModel, has_shape, may_carry}
 use Rattle.msrp_plan.specs.Words.{kind_text}
 use Rattle.msrp_plan.specs.declared.ids.JobId.{JobId}
@@ -23,11 +23,11 @@ abbrev pub is_number : ℕ → Option ℕ → Bool
 is_number n None = false
 is_number n (Some m) = m == n
 
--- the record is the first one of a trace of the plan, of whatever version
+-- the record is the first one of a trace of the plan, of either version
 abbrev pub is_head : PlanModel → List (List ℕ) → Bool
 is_head plan fields = (length fields == 4) && (has_word fields 0 trace_word && (is_number plan.cores (number_at fields 2) && is_number plan.ticks (number_at fields 3)))
 
--- the version that a first record tells, if it is one
+-- the version in a first record, if it is one
 abbrev pub version_told : PlanModel → List (List ℕ) → Option TextVersion
 version_told plan fields =
     if not (is_head plan fields) then None
@@ -50,11 +50,11 @@ kind_named word = find (λ k. bytes_eq word (kind_text k)) kinds
 abbrev pub kind_told : List (List ℕ) → Option Kind
 kind_told fields = option_and_then kind_named (field_at fields 2)
 
--- there is none: the field is a dash
+-- the field is a dash: no value
 abbrev pub is_dash : List (List ℕ) → ℕ → Bool
 is_dash fields i = has_word fields i dash
 
--- what a field tells, if it tells anything; a dash tells that there is none
+-- the value of a field, if it has one; a dash is none
 abbrev pub told_at : {A : Type 0} → (List ℕ → Option A) → List (List ℕ) → ℕ → Option (Option A)
 told_at meaning fields i = if is_dash fields i then Some None else option_map (λ a. Some a) (option_and_then meaning (field_at fields i))
 
@@ -78,13 +78,13 @@ abbrev pub ahead_told : TextVersion → List (List ℕ) → Option (Option ℕ)
 ahead_told V1 fields = Some None
 ahead_told V2 fields = told_at number_of fields 6
 
--- ---- the rules that a record may break
+-- ---- the rules that a record may violate
 -- tick and core are numbers, job and ahead a number or a dash
 abbrev pub lacks_number : TextVersion → List (List ℕ) → Bool
 lacks_number version fields = is_none (number_at fields 0) || (is_none (number_at fields 1) || (is_none (job_told fields) || is_none (ahead_told version fields)))
 
--- what a row of a kind has, by whether it has a task, a job and a resource: idle none of them, run a task and a job,
--- every other kind all three
+-- the parts of a row of a kind, by whether it has a task, a job and a resource: idle has none of
+-- them, run a task and a job, every other kind all three
 abbrev pub has_parts : Kind → Bool → Bool → Bool → Bool
 has_parts kind.Idle task job res = not task && (not job && not res)
 has_parts kind.Run task job res = task && (job && not res)
@@ -105,12 +105,12 @@ lacks_name plan fields = is_none (task_told plan fields) || is_none (res_told pl
 abbrev pub fault_if : Bool → TraceFault → Option TraceFault → Option TraceFault
 fault_if test fault rest = if test then Some fault else rest
 
--- the first rule that a record of a known kind breaks
+-- the first rule that a record of a known kind violates
 abbrev pub kind_fault : TextVersion → PlanModel → List (List ℕ) → Option Kind → Option TraceFault
 kind_fault version plan fields None = Some UnknownKind
 kind_fault version plan fields (Some k) = fault_if (not (is_shaped version fields k)) Shape (fault_if (lacks_name plan fields) Name None)
 
--- the first rule that a record breaks as a row, in the order of judging
+-- the first rule that a record violates as a row, in the order of the checks
 unfoldable pub row_fault : TextVersion → PlanModel → List (List ℕ) → Option TraceFault
 row_fault version plan fields =
     fault_if (not (length fields == field_count version)) FieldCount (
@@ -130,7 +130,7 @@ row_if tick core k job res ahead _ _ s c = None
 abbrev pub row_with : ℕ → ℕ → Kind → Option JobId → Option ResId → Option ℕ → Option Row
 row_with tick core k job res ahead = row_if tick core k job res ahead (has_shape k job res) (may_carry k ahead) refl refl
 
--- the row that a record tells, if it tells one
+-- the row of a record, if it has one
 unfoldable pub row_told : TextVersion → PlanModel → List (List ℕ) → Option Row
 row_told version plan fields =
     row_with (unwrap_or (number_at fields 0) 0) (unwrap_or (number_at fields 1) 0) (unwrap_or (kind_told fields) kind.Idle)

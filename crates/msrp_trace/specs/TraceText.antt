@@ -1,4 +1,4 @@
--- A trace as text: a record of the version and the plan's numbers, and then one for each row.
+-- A trace as text: a record of the version and the plan's numbers, then one for each row.
 use Rattle.std.specs.Prelude.{◌&&◌, ◌∷◌, ◌++◌}
 use Rattle.msrp_plan.specs.Common.{ℕ, Bool, true, nat_lt, List, [], length, slice_index_or, codes, decimal, Option, Some, None, flat_map, PlanModel, task_of}
 use Rattle.msrp_plan.specs.Words.{kind_text}
@@ -9,11 +9,11 @@ use Rattle.msrp_plan.specs.declared.rows.TextVersion.{TextVersion}
 use Rattle.msrp_plan.specs.declared.rows.TextVersion.TheVariants.{V1, V2}
 use Rattle.msrp_text.specs.PlanText.{record_text, version_text}
 
--- the word that a trace's text begins with
+-- the first word of a trace's text
 unfoldable pub trace_word : List ℕ
 trace_word = codes "msrp-trace"
 
--- what stands where a row has no job, no resource or no ahead
+-- the field of a job, resource or ahead that a row lacks
 unfoldable pub dash : List ℕ
 dash = codes "-"
 
@@ -30,7 +30,7 @@ abbrev pub res_text : PlanModel → Option ResId → List ℕ
 res_text plan None = dash
 res_text plan (Some g) = slice_index_or plan.resources g.0 []
 
--- the ahead, which version 1 leaves out
+-- the ahead, which version 1 omits
 abbrev pub ahead_text : Option ℕ → List ℕ
 ahead_text None = dash
 ahead_text (Some n) = decimal n
@@ -66,6 +66,6 @@ abbrev pub is_res_of : PlanModel → Option ResId → Bool
 is_res_of plan None = true
 is_res_of plan (Some g) = nat_lt g.0 (length plan.resources)
 
--- the row names what the plan has
+-- the row names only what the plan has
 abbrev pub is_named : PlanModel → Row → Bool
 is_named plan r = is_task_of plan r.job && is_res_of plan r.res

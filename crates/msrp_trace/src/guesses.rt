@@ -1,4 +1,4 @@
-//! What a row may name, guessed.
+//! Guesses at the names in a row, which save a search for most of them.
 ghost use Rattle.std.specs.Prelude.{◌≡◌, ◌<◌};
 ghost use Rattle.msrp_plan.specs.Common.{most_cores};
 ghost use Rattle.std.specs.Option.{IfSome};
@@ -13,14 +13,14 @@ pub(crate) struct Guess {
     pub(crate) res: ResId,
 }
 
-// Where no row of the core has named any.
+// The guess before any row of the core.
 const FIRST: Guess = Guess {
     task: TaskId(0),
     res: ResId(0),
 };
 
-/// What the last row of each core named. Most rows of a core name what the one before named, so a reader compares
-/// these names before it searches. What is read is the same whatever is guessed.
+/// What each core's last row named. Most rows of a core name the same, so a reader compares these
+/// names before it searches. The guess never changes what is read.
 #[derive(Drop)]
 pub(crate) struct Guesses {
     of_core: [Guess; MOST_CORES as usize],
@@ -48,7 +48,7 @@ impl Guesses {
         }
     }
 
-    /// Keeps what a row named.
+    /// Stores what a row named.
     pub(crate) fn keep(&mut self, row: &Row)
         ensures task { row.now.core.0 < most_cores → IfSome row.now.job (λ job. (guess_of self.new row.now.core.0).task ≡ job.task) }
         ensures res { row.now.core.0 < most_cores → IfSome row.now.res (λ res. (guess_of self.new row.now.core.0).res ≡ res) }

@@ -1,4 +1,4 @@
-//! The text of a job, which stands in the records of all its rows.
+//! The text of a core's job, made once for all its rows.
 ghost use Rattle.std.specs.Prelude.{◌≡◌, ◌<◌, ◌≤◌, ◌++◌};
 ghost use Rattle.msrp_plan.specs.Common.{[], decimal, length, true, Some, None, task_at};
 ghost use Rattle.msrp_trace.specs.Gathering.{next_field};
@@ -7,10 +7,10 @@ ghost use Rattle.msrp_trace.specs.Lines.{IsJobText, job_fields};
 use crate::text::Text;
 use msrp_plan::{JobId, Plan, TaskId};
 
-// No text of a job is longer: two commas, a name of at most 16 letters, and a number of at most 10 digits.
+// Enough for two commas, a name of at most 16 letters, and a number of at most 10 digits.
 const JOB: usize = 32;
 
-/// A job that a core ran, and its two fields in a record. As long as the core runs no other job they aren't made again.
+/// A job that a core ran, and its two fields in a record, made again only for another job.
 #[derive(Drop)]
 pub(crate) struct JobText {
     job: Option<JobId>,
@@ -23,7 +23,7 @@ fn task_field(plan: &Plan, task: TaskId) -> &[u8]
     ensures name { result.now ≡ (task_at plan.now task.0).name }
     ensures short { length result.now ≤ 16 }
 {
-    // Read so that the plan is known to be an accepted one.
+    // This read proves that the plan is an accepted one.
     let _accepted = plan.tasks();
     plan.task_name(task).as_bytes()
 }

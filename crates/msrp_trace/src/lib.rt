@@ -1,8 +1,8 @@
 //! Trace text, read and written: the rows of a text, or its first refusal, and the text of rows.
 //!
-//! A [`TraceReader`] gives the rows of a text one by one, and a [`TraceWriter`] writes them; [`write_trace`] writes a whole trace. Rows that differ
-//! in the tick alone are written and met by a text that [`RowTexts`] keeps. [`laws`]
-//! are theorems about what is written and read again.
+//! A [`TraceReader`] returns the rows of a text one by one; a [`TraceWriter`] writes rows, and
+//! [`write_trace`] a whole trace. [`RowTexts`] stores the text of rows that differ only in the
+//! tick, for writing and for comparing. [`laws`] are theorems about writing and reading back.
 #![tactic(auto)]
 
 mod faults;

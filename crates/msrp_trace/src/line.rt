@@ -1,4 +1,4 @@
-//! The text of one record as it is made, and what is kept of a core's last one.
+//! The text of one record, and what a core's next record can reuse of it.
 ghost use Rattle.msrp_plan.specs.Common.{[], decimal, length, true, Some, None, flat_map};
 ghost use Rattle.msrp_plan.specs.Words.{kind_text};
 ghost use Rattle.std.specs.Prelude.{◌≡◌, ◌≤◌, ◌<◌, ◌+◌, ◌++◌, IsSomeAnd};
@@ -14,7 +14,7 @@ use msrp_plan::limits::MOST_RESOURCES;
 use msrp_plan::{CoreId, JobId, Kind, Plan, ResId, Row, TextVersion};
 use std::marker::Model;
 
-// No record is longer: a number has at most 10 digits, and a name at most 16 letters.
+// Enough for a record: a number has at most 10 digits, a name at most 16 letters.
 pub(crate) const LINE: usize = 80;
 
 /// The text of a record, as far as it is made.
@@ -31,7 +31,7 @@ impl Model for LineText {
     ghost view = { λ l. l.text };
 }
 
-// The field of a kind. Each is laid down with what fills it up, so that the copy is always of the same length.
+// The field of a kind, with its padding, so that each copy has the same length.
 #[inline(always)]
 #[tactic(auto, unfolding(msrp_plan::specs::Words::kind_text, crate::specs::Gathering::next_field))]
 fn kind_field(kind: Kind) -> Text<8>
@@ -51,7 +51,7 @@ fn kind_field(kind: Kind) -> Text<8>
 }
 
 impl LineText {
-    /// A record of which nothing is made.
+    /// An empty record.
     pub(crate) fn new() -> LineText
         ensures { result ≡ [] }
     {
@@ -65,14 +65,14 @@ impl LineText {
         &self.text
     }
 
-    /// Takes everything back.
+    /// Removes everything.
     pub(crate) fn clear(&mut self)
         ensures { self.new ≡ [] }
     {
         self.text.clear();
     }
 
-    // A field that says that there is none.
+    // A field without a value.
     #[tactic(auto, unfolding(crate::specs::TraceText::dash))]
     fn next_dash(&mut self)
         requires { length self.old + 2 ≤ LINE }
@@ -82,8 +82,8 @@ impl LineText {
         self.text.next(DASH);
     }
 
-    // The first two fields after the tick: the core and the word for a kind. Where the core has one digit, as each has, its field has two bytes, so that
-    // what comes behind stands at a known place.
+    // The first two fields after the tick: core and kind. A core always has one digit, so its field
+    // has two bytes and the next one's place is known.
     #[inline(always)]
     fn begin(&mut self, core: CoreId, kind: Kind)
         ensures text { self.new ≡ next_field (decimal core.0) ++ next_field (kind_text kind) }
@@ -99,7 +99,7 @@ impl LineText {
         }
     }
 
-    // The two fields of a job: its task's name and its number. They are kept for its next row.
+    // The two fields of a job: its task's name and its number, stored for its next row.
     #[inline(always)]
     fn next_job(&mut self, plan: &Plan, kept: &mut JobText, job: Option<JobId>)
         requires task { is_task_of plan.now job ≡ true }
@@ -121,7 +121,7 @@ impl LineText {
         }
     }
 
-    // The field of a resource. It is kept for the next rows on it.
+    // The field of a resource, stored for the next rows on it.
     #[inline(always)]
     fn next_resource(&mut self, plan: &Plan, kept: &mut ResTexts, res: Option<ResId>)
         requires res { is_res_of plan.now res ≡ true }
@@ -141,7 +141,7 @@ impl LineText {
         }
     }
 
-    // The field of an ahead, which version 1 leaves out.
+    // The field of an ahead, which version 1 omits.
     fn next_ahead(&mut self, version: TextVersion, ahead: Option<u32>)
         requires { length self.old + 11 ≤ LINE }
         ensures text { self.new ≡ self.old ++ flat_map next_field (ahead_fields version ahead) }
@@ -166,7 +166,7 @@ impl LineText {
         self.text.add(b"\n");
     }
 
-    // Makes the record of a row but for its tick.
+    // Makes the record of a row, without its tick.
     #[inline(always)]
     fn make(
         &mut self,
@@ -191,7 +191,7 @@ impl LineText {
     }
 }
 
-/// The text of a core's record after the tick, and what the next one is made from.
+/// The text of a core's record after the tick, and what the next one reuses.
 #[derive(Drop)]
 pub(crate) struct CoreText {
     line: LineText,
@@ -200,7 +200,6 @@ pub(crate) struct CoreText {
 }
 
 impl CoreText {
-    /// No record.
     pub(crate) fn new() -> CoreText
         ensures line { result.line ≡ [] }
         ensures job { result.job.job ≡ None }
@@ -211,7 +210,7 @@ impl CoreText {
         }
     }
 
-    /// Makes the record of a row but for its tick.
+    /// Makes the record of a row, without its tick.
     #[inline(always)]
     pub(crate) fn make(&mut self, plan: &Plan, version: TextVersion, row: &Row, res: &mut ResTexts)
         requires named { is_named plan.now row.now ≡ true }
@@ -224,7 +223,7 @@ impl CoreText {
         self.line.make(plan, version, row, &mut self.job, res);
     }
 
-    /// Makes it apart from the code of its caller, which seldom needs it.
+    /// Makes it, kept apart from the code of its caller, which rarely needs it.
     #[inline(never)]
     pub(crate) fn make_apart(
         &mut self,
@@ -251,7 +250,8 @@ impl CoreText {
     }
 }
 
-/// A row that was written, and its text. As long as a core does the same, its next rows differ in the tick alone.
+/// A written row, and its text. While its core does the same, its next rows differ only in the
+/// tick.
 #[derive(Drop)]
 pub(crate) struct RowLine {
     row: Option<Row>,
@@ -272,7 +272,6 @@ fn is_same_place(a: &Row, b: &Row) -> bool
 }
 
 impl RowLine {
-    /// No row.
     pub(crate) fn new() -> RowLine
         ensures row { result.row ≡ None }
         ensures job { result.text.job.job ≡ None }
@@ -283,7 +282,7 @@ impl RowLine {
         }
     }
 
-    // Whether the row differs from this one in the tick alone. A row with an ahead is like no other.
+    // Whether the row differs from this one only in the tick; false for one with an ahead.
     fn is_of(&self, row: &Row) -> bool
         ensures kind { result ≡ true → IsSomeAnd self.now.row (λ last. last.kind ≡ row.now.kind) }
         ensures place { result ≡ true → IsSomeAnd self.now.row (λ last. is_same_place last row.now ≡ true) }
@@ -294,7 +293,7 @@ impl RowLine {
         }
     }
 
-    /// Makes the record of a row but for its tick, unless it is here already.
+    /// Makes the record of a row, without its tick, unless it is here already.
     #[inline(always)]
     pub(crate) fn show(&mut self, plan: &Plan, version: TextVersion, row: &Row, res: &mut ResTexts)
         requires named { is_named plan.now row.now ≡ true }
@@ -305,7 +304,7 @@ impl RowLine {
         ensures text { self.new.text.line ≡ after_tick version plan.now row.now }
     {
         if !self.is_of(row) {
-            // The row is taken field by field, so that one that repeats is never laid down in memory as a whole.
+            // Field by field, so that a row that repeats is never built in memory as a whole.
             let made = Row {
                 tick: row.tick,
                 core: row.core,

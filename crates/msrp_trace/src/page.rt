@@ -1,4 +1,4 @@
-//! Text that is gathered and then written, some kilobytes at a time.
+//! Text gathered into pages, so that the writer underneath is called once for 32 KiB.
 ghost use Rattle.std.specs.Prelude.{◌≡◌, ◌≤◌, ◌+◌, ◌++◌};
 ghost use Rattle.msrp_plan.specs.Common.{[], length, Wrote};
 ghost use Rattle.msrp_trace.specs.Gathering.{Gathers};
@@ -8,10 +8,10 @@ use msrp_plan::bytes::Sink;
 use std::io::Write;
 use std::marker::Model;
 
-// So many bytes are gathered before they are written.
+// The number of bytes gathered before a write.
 const PAGE: usize = 32_768;
 
-/// Text that was gathered and is not written yet.
+/// Text that was gathered and isn't written yet.
 #[derive(Drop)]
 pub(crate) struct Page {
     text: Text<PAGE>,
@@ -26,7 +26,7 @@ impl Model for Page {
 }
 
 impl Page {
-    /// A page with nothing on it.
+    /// An empty page.
     pub(crate) fn new() -> Page
         ensures { result ≡ [] }
     {
@@ -43,7 +43,7 @@ impl Page {
         self.text.clear();
     }
 
-    // Writes what was gathered where the page has no room for so many bytes more.
+    // Writes what was gathered if the page has no room for `more` bytes.
     #[inline(always)]
     fn make_room<W: Write>(&mut self, out: &mut Sink<W>, more: usize)
         requires { more ≤ PAGE }
@@ -55,7 +55,7 @@ impl Page {
         }
     }
 
-    /// Takes a text. Where the page has no room for the longest of its type, what was gathered is written before.
+    /// Adds a text. If there is no room for the longest one of its type, writes what was gathered.
     #[inline(always)]
     pub(crate) fn add<W: Write, const N: usize>(&mut self, out: &mut Sink<W>, text: &Text<N>)
         requires { N ≤ PAGE }
@@ -65,7 +65,7 @@ impl Page {
         self.text.add_text(text);
     }
 
-    /// Takes two texts, one behind the other, and looks once for the room of both.
+    /// Adds two texts, one after the other, with one check for both.
     #[inline(always)]
     pub(crate) fn add_both<W: Write, const N: usize, const M: usize>(
         &mut self,

@@ -1,4 +1,4 @@
-//! Trace text, read.
+//! Trace text, read: rows one by one, by fields or by comparison with an expected text.
 ghost use Rattle.std.specs.Prelude.{◌+◌, ◌^◌, ◌<◌, ◌≤◌, ◌≡◌, ◌⊎◌, ◌↔◌};
 ghost use Rattle.msrp_plan.specs.Common.{[], length, IsSome, decimal, ℕ, List, Some, None, Ok, Err, IfOk, IfErr, OnOk, OnErr, true, false, source_failed, source_remaining};
 ghost use Rattle.std.specs.Option.{IfSome};
@@ -25,39 +25,39 @@ use msrp_text::records::RecordReader;
 use std::alloc::Global;
 use std::io::Read;
 
-// Where a reader stands.
+// What a reader expects.
 #[derive(Clone, Copy, Debug, PartialEq, Eq)]
 enum ReaderState {
-    // Further rows may come.
+    // More rows may follow.
     Rows,
-    // The text is at its end.
+    // The text has ended.
     Ended,
-    // A record was refused, a read failed, or memory was refused.
+    // A record was refused, a read failed, or memory ran out.
     Failed,
 }
 
-/// The rows of a trace's text, one by one. One record is kept and used again for each row.
+/// The rows of a trace's text, one by one; one record's memory serves all rows.
 ///
-/// A text is records of comma-separated fields: `msrp-trace,1,M,H` or `msrp-trace,2,M,H`, with the plan's numbers of
-/// cores and ticks, and then for each row `tick,core,kind,task,job,resource`, in version 2 with a seventh field
-/// `ahead`; `-` stands where there is none.
+/// A text is records of comma-separated fields: `msrp-trace,1,M,H` or `msrp-trace,2,M,H`, with the
+/// plan's numbers of cores and ticks, then for each row `tick,core,kind,task,job,resource`, in
+/// version 2 with a seventh field `ahead`; `-` is a field without a value.
 ///
-/// Row i is record i + 1. A record is judged by its number of fields (R2), its numbers (R3), its kind (R4), its shape
-/// (R6) and its names (R5), in this order. Whether the row is legal is not judged, nor how many come.
+/// Row i is record i + 1. A record is checked for its number of fields (R2), numbers (R3), kind
+/// (R4), shape (R6) and names (R5), in this order, not for legality or the number of rows.
 #[derive(Drop)]
 pub struct TraceReader<'a, R> {
     plan: &'a Plan,
     records: RecordReader<&'a mut Source<R>>,
     fields: ByteRecord,
     guesses: Guesses,
-    // The tick that was asked last, as text.
+    // The last tick compared, as text.
     tick: Tick,
     version: TextVersion,
     number: u32,
     state: ReaderState,
 }
 
-/// Why no reader of a trace's rows could be opened, and the first record, if one was read, with the line in which it begins, where that is known.
+/// Why a reader couldn't be opened; its first record, if read, and that record's line, if known.
 #[derive(Drop)]
 pub struct Unopened {
     pub error: TraceError,
@@ -81,7 +81,7 @@ fn no_head(first: ByteRecord, line: Option<u64>) -> Unopened
     }
 }
 
-// The line in which the record of that number begins, of which so many were read, where that is known.
+// The line of the record of that number, if that many were read and it is known.
 fn line_in<R: Read>(records: &RecordReader<R>, number: u32) -> Option<u64>
     requires { 1 ≤ number }
     ensures line { (text : List ℕ) → HasRead R.remaining text number records.now → IfSome result (BeginsIn text number) }
@@ -91,7 +91,7 @@ fn line_in<R: Read>(records: &RecordReader<R>, number: u32) -> Option<u64>
     Some(u64::from(number) + u64::from(empty))
 }
 
-// Why no further record can be had: a read failed, or else memory was refused.
+// Why no more records can be read: a failed read, otherwise memory.
 fn stopped<R: Read>(records: &RecordReader<&mut Source<R>>) -> TraceError
     ensures stopped { (result ≡ TraceError.Read) ⊎ (result ≡ TraceError.Memory) }
     ensures read { (result ≡ TraceError.Read) ↔ (source_failed (reader_under records.now).now ≡ true) }
@@ -118,7 +118,7 @@ impl ReaderState {
     }
 }
 
-// The row that a record of that number tells, or its refusal.
+// The row of the record of that number, or its refusal.
 fn numbered_row(
     plan: &Plan,
     version: TextVersion,
@@ -140,7 +140,7 @@ fn numbered_row(
 impl<'a, R: Read> TraceReader<'a, R> {
     ghost use Rattle.msrp_trace.specs.Readers.{BeginsAt, CanMeet, GivesFirstOr, GivesNext, HasReadBehind, HasReadIn, HasReadTo, HoldsUnlessFailed, IsAtTick, IsOfTrace, IsRecordOf, IsTextOf, Opens, StandsBehind, StandsIn, error_of, has_failed, record_read, source_of, told_left};
 
-    /// The rows of all that a source has left, for a trace of the plan. R1 is refused here.
+    /// The rows of the rest of a source, for a trace of the plan. Refuses a first record by R1.
     #[inline(always)]
     pub fn new(
         alloc: Global,
@@ -157,7 +157,7 @@ impl<'a, R: Read> TraceReader<'a, R> {
         }
     }
 
-    /// A reader of the rows, as by `new`. A first record that is refused is given back with its refusal.
+    /// A reader as by `new`; a refused first record is given back.
     pub fn open(
         alloc: Global,
         source: &'a mut Source<R>,
@@ -199,15 +199,15 @@ impl<'a, R: Read> TraceReader<'a, R> {
         }
     }
 
-    /// After a refusal: the refused record, field by field. After a row it may be any earlier one.
+    /// After a refusal the refused record, field by field; after a row any earlier one.
     pub fn refused_record(&self) -> &ByteRecord
         ensures { fields_of result.now ≡ record_read self.now }
     {
         &self.fields
     }
 
-    /// The line in which the record of that number begins, counted from 1. It is told of the record that was read last, which after a refusal is the refused
-    /// one, where it is known, as [`RecordReader::empty_lines`] says.
+    /// The line, from 1, of the record of that number, if it is the last one read (after a refusal
+    /// the refused one) and its line is known, as [`RecordReader::empty_lines`] says.
     pub fn line_of(&self, number: u32) -> Option<u64>
         ensures line { (text : List ℕ) → HasReadIn R.remaining text self.now → IfSome result (BeginsIn text number) }
         ensures known { (text : List ℕ) → HasReadTo R.remaining text number self.now → 1 ≤ number → length text < 2 ^ 32 → reads_csv self.now.records ≡ false → IsSome result }
@@ -218,7 +218,7 @@ impl<'a, R: Read> TraceReader<'a, R> {
         line_in(&self.records, number)
     }
 
-    /// The next row, and none at the end of the text. After a refusal the reader answers [`TraceError::Failed`].
+    /// The next row, none at the end of the text; after a refusal [`TraceError::Failed`].
     pub fn next_row(&mut self) -> Result<Option<Row>, TraceError>
         ensures next { (told : Told) → told_left R.remaining self.old ≡ Some told → GivesNext told result (told_left R.remaining self.new) }
         ensures goes { OnOk result (has_failed self.new ≡ false) }
@@ -240,14 +240,14 @@ impl<'a, R: Read> TraceReader<'a, R> {
         answer
     }
 
-    /// The version that the first record tells.
+    /// The version in the first record.
     pub fn version(&self) -> TextVersion
         ensures { result ≡ self.now.version }
     {
         self.version
     }
 
-    /// A row as the trace tells it: version 1 leaves out the ahead.
+    /// A row as the trace has it: version 1 omits the ahead.
     #[inline(always)]
     pub fn as_read(&self, row: Row) -> Row
         ensures { result ≡ as_read self.now.version row }
@@ -258,8 +258,9 @@ impl<'a, R: Read> TraceReader<'a, R> {
         }
     }
 
-    /// Whether the next row is one of the core in that tick, with the text that is kept of it, where [`TraceReader::core_ahead`] has told a core in
-    /// that tick: the text of the tick isn't compared again, and no more is read. Where no text is kept it isn't met.
+    /// Whether the next row has that tick and the core's stored text, once
+    /// [`TraceReader::core_ahead`] has found a core in that tick: the tick isn't compared again,
+    /// and nothing is read. False without a stored text.
     #[inline(always)]
     pub fn comes_behind(&mut self, tick: u32, texts: &RowTexts<'_>, core: CoreId) -> bool
         requires { IsAtTick tick self.old }
@@ -278,7 +279,7 @@ impl<'a, R: Read> TraceReader<'a, R> {
         let Some(after) = self.number.checked_add(1) else {
             return false;
         };
-        // Read so that the plan is known to be an accepted one.
+        // This read proves that the plan is an accepted one.
         let _accepted = self.plan.tasks();
         let line = text_of(&texts.lines, (core.0 % MOST_CORES) as usize);
         let met = self
@@ -290,8 +291,8 @@ impl<'a, R: Read> TraceReader<'a, R> {
         met
     }
 
-    /// The core of the next row, where its text begins with this tick and a core of one digit, as rows are written; else none, and nothing
-    /// is known. Nothing is taken.
+    /// The core of the next row, if its text begins with this tick and a core of one digit, as rows
+    /// are written; otherwise none, and nothing is known. Takes nothing.
     #[inline(always)]
     pub fn core_ahead(&mut self, tick: u32) -> Option<CoreId>
         ensures next { (told : Told) → told_left R.remaining self.old ≡ Some told → IfSome result (λ core. BeginsAt tick core told) }
@@ -314,7 +315,7 @@ impl<'a, R: Read> TraceReader<'a, R> {
         }
     }
 
-    // The next row where further rows may come.
+    // The next row, while more may follow.
     fn read_next(&mut self) -> Result<Option<Row>, TraceError>
         requires { self.old.state ≡ ReaderState.Rows }
         ensures next { (told : Told) → told_left R.remaining self.old ≡ Some told → HoldsUnlessFailed result (GivesFirstOr told.rows told.refusal result (told_left R.remaining self.new)) }
@@ -327,7 +328,7 @@ impl<'a, R: Read> TraceReader<'a, R> {
         ensures lines { (text : List ℕ) → HasReadIn R.remaining text self.old → HasReadBehind R.remaining text result self.new }
     {
         let Some(number) = self.number.checked_add(1) else {
-            // A source gives far fewer bytes than so many records take.
+            // A source has far fewer bytes than these records would take.
             return Err(stopped(&self.records));
         };
         match self.records.read(&mut self.fields) {

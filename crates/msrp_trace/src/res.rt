@@ -1,4 +1,4 @@
-//! The text of a resource, which stands in the records of the rows on it.
+//! The text of a resource, made once for the rows on it.
 ghost use Rattle.std.specs.Prelude.{◌≡◌, ◌<◌, ◌≤◌};
 ghost use Rattle.msrp_plan.specs.Common.{length, true, Some, None, PlanModel};
 ghost use Rattle.msrp_trace.specs.Gathering.{next_field};
@@ -10,10 +10,10 @@ use msrp_plan::limits::MOST_RESOURCES;
 use msrp_plan::{Plan, ResId};
 use std::array;
 
-// No text of a resource is longer: a comma, and a name of at most 16 letters.
+// Enough for a comma and a name of at most 16 letters.
 const RES: usize = 24;
 
-/// A resource that was named, and its field in a record.
+/// A resource, and its field in a record.
 #[derive(Drop)]
 pub(crate) struct ResText {
     res: Option<ResId>,
@@ -26,13 +26,12 @@ fn res_field(plan: &Plan, res: ResId) -> &[u8]
     ensures name { result.now ≡ res_text plan.now (Some res) }
     ensures short { length result.now ≤ 16 }
 {
-    // Read so that the plan is known to be an accepted one.
+    // This read proves that the plan is an accepted one.
     let _accepted = plan.resources();
     plan.res_name(res).as_bytes()
 }
 
 impl ResText {
-    /// No resource.
     pub(crate) fn new() -> ResText
         ensures { result.res ≡ None }
     {
@@ -84,14 +83,13 @@ impl ResText {
     }
 }
 
-/// The resources that were named, by their numbers. Their fields are the same for all cores.
+/// The resources' fields, by number; all cores share them.
 #[derive(Drop)]
 pub(crate) struct ResTexts {
     pub(crate) kept: [ResText; MOST_RESOURCES],
 }
 
 impl ResTexts {
-    /// No resource.
     pub(crate) fn new() -> ResTexts
         ensures { (plan : PlanModel) → AreResTexts plan result }
     {

@@ -1,4 +1,4 @@
-//! The row that a record tells.
+//! The row of a record, or the first rule that the record violates.
 ghost use Rattle.std.specs.Prelude.{◌≡◌};
 ghost use Rattle.msrp_plan.specs.Common.{true, has_shape, may_carry};
 ghost use Rattle.csv.specs.Records.{fields_of};
@@ -24,7 +24,7 @@ fn tells_number(fields: &ByteRecord, i: usize, number: u32) -> bool
     }
 }
 
-// Whether a record is the first one of a trace of the plan, of whatever version.
+// Whether a record is the first one of a trace of the plan, of either version.
 #[tactic(auto, unfolding(crate::specs::TraceText::trace_word))]
 fn is_head(plan: &Plan, fields: &ByteRecord) -> bool
     ensures { result ≡ is_head plan.now (fields_of fields.now) }
@@ -35,7 +35,7 @@ fn is_head(plan: &Plan, fields: &ByteRecord) -> bool
         && tells_number(fields, 3, plan.ticks())
 }
 
-/// The version that a first record tells, if it is that of a trace of the plan.
+/// The version in a first record, if it is that of a trace of the plan.
 pub(crate) fn version_told(plan: &Plan, fields: &ByteRecord) -> Option<TextVersion>
     ensures { result ≡ version_told plan.now (fields_of fields.now) }
 {
@@ -60,7 +60,7 @@ fn field_count(version: TextVersion) -> usize
     }
 }
 
-// The kind that a record tells.
+// The kind in a record.
 fn kind_told(fields: &ByteRecord) -> Option<Kind>
     ensures { result ≡ kind_told (fields_of fields.now) }
 {
@@ -70,7 +70,7 @@ fn kind_told(fields: &ByteRecord) -> Option<Kind>
     }
 }
 
-// Whether a field says that there is none.
+// Whether a field is the dash, for no value.
 #[tactic(auto, unfolding(crate::specs::TraceText::dash))]
 fn is_dash(fields: &ByteRecord, i: usize) -> bool
     ensures { result ≡ is_dash (fields_of fields.now) i }
@@ -89,7 +89,7 @@ struct Numbers {
     ahead: Option<u32>,
 }
 
-// The number that a field tells, or that there is none.
+// The number in a field, or none for a dash.
 fn number_or_dash(fields: &ByteRecord, i: usize) -> Option<Option<u32>>
     ensures { result ≡ told_at number_of (fields_of fields.now) i }
 {
@@ -102,7 +102,7 @@ fn number_or_dash(fields: &ByteRecord, i: usize) -> Option<Option<u32>>
     }
 }
 
-// The ahead that a row tells, or that there is none.
+// The ahead of a row, or none.
 fn ahead_told(version: TextVersion, fields: &ByteRecord) -> Option<Option<u32>>
     ensures { result ≡ ahead_told version (fields_of fields.now) }
 {
@@ -112,7 +112,7 @@ fn ahead_told(version: TextVersion, fields: &ByteRecord) -> Option<Option<u32>>
     }
 }
 
-// The numbers of a row, if all are there that have to be.
+// The numbers of a row, if all required ones are there.
 fn numbers_told(version: TextVersion, fields: &ByteRecord) -> Option<Numbers>
     ensures { result ≡ numbers_told version (fields_of fields.now) }
 {
@@ -134,7 +134,7 @@ fn numbers_told(version: TextVersion, fields: &ByteRecord) -> Option<Numbers>
 
 // ---- shape
 
-// Whether a row has the task, the job and the resource that a row of its kind has.
+// Whether a row has exactly the task, job and resource of its kind.
 fn has_parts(kind: Kind, task: bool, job: bool, res: bool) -> bool
     ensures { result ≡ has_parts kind task job res }
 {
@@ -145,7 +145,7 @@ fn has_parts(kind: Kind, task: bool, job: bool, res: bool) -> bool
     }
 }
 
-// Whether a row of version 2 has an ahead just where it is a queue row.
+// Whether in version 2 exactly a queue row has an ahead.
 fn has_its_ahead(version: TextVersion, kind: Kind, ahead: bool) -> bool
     ensures { result ≡ has_its_ahead version kind ahead }
 {
@@ -156,7 +156,7 @@ fn has_its_ahead(version: TextVersion, kind: Kind, ahead: bool) -> bool
     }
 }
 
-// Whether a row has what a row of its kind has.
+// Whether a row has exactly the parts of its kind.
 fn is_shaped(version: TextVersion, fields: &ByteRecord, kind: Kind) -> bool
     ensures { result ≡ is_shaped version (fields_of fields.now) kind }
 {
@@ -177,7 +177,7 @@ struct Names {
     res: Option<ResId>,
 }
 
-// The plan's task of a name. A guess is compared first.
+// The plan's task of a name; the guess is compared first.
 fn task_named(plan: &Plan, guess: TaskId, name: &[u8]) -> Option<TaskId>
     ensures { result ≡ task_named plan.now name.now }
 {
@@ -190,7 +190,7 @@ fn task_named(plan: &Plan, guess: TaskId, name: &[u8]) -> Option<TaskId>
     }
 }
 
-// The plan's resource of a name. A guess is compared first.
+// The plan's resource of a name; the guess is compared first.
 fn res_named(plan: &Plan, guess: ResId, name: &[u8]) -> Option<ResId>
     ensures { result ≡ res_named plan.now name.now }
 {
@@ -203,7 +203,7 @@ fn res_named(plan: &Plan, guess: ResId, name: &[u8]) -> Option<ResId>
     }
 }
 
-// The task that a row tells, or that there is none.
+// The task of a row, or none for a dash.
 fn task_told(plan: &Plan, guess: TaskId, fields: &ByteRecord) -> Option<Option<TaskId>>
     ensures { result ≡ task_told plan.now (fields_of fields.now) }
 {
@@ -219,7 +219,7 @@ fn task_told(plan: &Plan, guess: TaskId, fields: &ByteRecord) -> Option<Option<T
     }
 }
 
-// The resource that a row tells, or that there is none.
+// The resource of a row, or none for a dash.
 fn res_told(plan: &Plan, guess: ResId, fields: &ByteRecord) -> Option<Option<ResId>>
     ensures { result ≡ res_told plan.now (fields_of fields.now) }
 {
@@ -282,8 +282,8 @@ fn row_with(numbers: Numbers, kind: Kind, names: Names) -> Row
     }
 }
 
-/// The row that a record tells, or the first rule that the record breaks. What the core's last row named is
-/// compared first with the names of this one.
+/// The row of a record, or the first rule that the record violates. Its names are first compared
+/// with those of the core's last row.
 pub(crate) fn read_row(
     plan: &Plan,
     version: TextVersion,

@@ -1,4 +1,4 @@
-//! Text in an array of its own, which is copied whole.
+//! Short text in a fixed array: copied whole, with lengths known to the compiler.
 ghost use Rattle.std.specs.Prelude.{◌≡◌, ◌≤◌, ◌<◌, ◌+◌, ◌-◌, ◌++◌, ◌∷◌};
 ghost use Rattle.msrp_plan.specs.Common.{ℕ, [], decimal, length, slice_index, take};
 ghost use Rattle.msrp_trace.specs.Gathering.{next_field};
@@ -7,14 +7,14 @@ use itoa::Buffer;
 use std::marker::Model;
 use std::simd::{u8x16, u8x32};
 
-// Most texts of a longer type have no more bytes.
+// Most texts of a longer type aren't longer.
 const SHORT: usize = 48;
 
 /// A text of at most `N` bytes.
 #[derive(Drop)]
 pub(crate) struct Text<const N: usize> {
     bytes: [u8; N],
-    // How many of the bytes are the text. What stands behind them means nothing.
+    // The number of bytes of the text. The bytes after them mean nothing.
     len: usize,
 }
 
@@ -28,7 +28,7 @@ impl<const N: usize> Model for Text<N> {
     ghost invariant = { λ t. t.len ≤ N };
 }
 
-// Writes some bytes over those of an array from a place on.
+// Writes bytes into an array, from an index on.
 #[inline(always)]
 fn lay(array: &mut [u8], place: usize, bytes: &[u8])
     requires { place + length bytes.now ≤ length array.old }
@@ -39,7 +39,7 @@ fn lay(array: &mut [u8], place: usize, bytes: &[u8])
     array[place..end].copy_from_slice(bytes);
 }
 
-// Writes the first 48 bytes of these over those of an array from a place on, in two pieces.
+// Writes the first 48 of these bytes into an array from an index on, in two pieces.
 #[inline(always)]
 fn lay_short(array: &mut [u8], place: usize, bytes: &[u8])
     requires some { SHORT ≤ length bytes.now }
@@ -51,8 +51,8 @@ fn lay_short(array: &mut [u8], place: usize, bytes: &[u8])
     u8x16::from_slice(&bytes[32..]).copy_to_slice(&mut array[place + 32..]);
 }
 
-// Writes a text over the bytes of an array from a place on, where there is room for the longest of its type: so the copy is of one of
-// two lengths.
+// Writes a text into an array from an index on, with room for the longest one of its type: so the
+// copy has one of two lengths.
 #[inline(always)]
 fn lay_text<const M: usize>(array: &mut [u8], place: usize, text: &Text<M>)
     requires { place + M ≤ length array.old }
@@ -62,7 +62,7 @@ fn lay_text<const M: usize>(array: &mut [u8], place: usize, text: &Text<M>)
     if SHORT < M {
         lay_short(array, place, &text.bytes);
         if text.len > SHORT {
-            // Taken out first, so that nobody has to ask whether the places overlap.
+            // Taken out first, so that no check for an overlap is needed.
             let bytes = text.bytes;
             let all = &bytes[..];
             lay(array, place + SHORT, &all[SHORT..]);
@@ -74,7 +74,7 @@ fn lay_text<const M: usize>(array: &mut [u8], place: usize, text: &Text<M>)
 }
 
 impl<const N: usize> Text<N> {
-    /// No text.
+    /// The empty text.
     pub(crate) fn new() -> Text<N>
         ensures { result ≡ [] }
     {
@@ -100,14 +100,14 @@ impl<const N: usize> Text<N> {
         &self.bytes[..self.len]
     }
 
-    /// How many bytes it has.
+    /// The number of its bytes.
     pub(crate) fn len(&self) -> usize
         ensures { result ≡ length self.now }
     {
         self.len
     }
 
-    /// Takes everything back.
+    /// Removes everything.
     pub(crate) fn clear(&mut self)
         ensures { self.new ≡ [] }
     {
@@ -122,7 +122,7 @@ impl<const N: usize> Text<N> {
         self.bytes[self.len - 1]
     }
 
-    /// Puts another byte in the place of the last one.
+    /// Replaces the last byte.
     pub(crate) fn set_last(&mut self, byte: u8)
         requires { 0 < length self.old }
         ensures { self.new ≡ take (length self.old - 1) self.old ++ byte ∷ [] }
@@ -130,7 +130,7 @@ impl<const N: usize> Text<N> {
         self.bytes[self.len - 1] = byte;
     }
 
-    /// Takes some bytes more, for which there is room.
+    /// Adds bytes, for which there is room.
     #[inline(always)]
     pub(crate) fn add(&mut self, bytes: &[u8])
         requires { length self.old + length bytes.now ≤ N }
@@ -142,7 +142,7 @@ impl<const N: usize> Text<N> {
         self.len = len + bytes.len();
     }
 
-    /// Takes another text, where there is room for the longest of its type.
+    /// Adds another text; there is room for the longest one of its type.
     #[inline(always)]
     pub(crate) fn add_text<const M: usize>(&mut self, text: &Text<M>)
         requires { length self.old + M ≤ N }
@@ -155,7 +155,7 @@ impl<const N: usize> Text<N> {
         self.len = len + text.len;
     }
 
-    // Takes a number, however many digits it has.
+    // Adds a number of any length.
     #[inline(never)]
     fn digits(&mut self, number: u32)
         requires { length self.old + 10 ≤ N }
@@ -166,7 +166,7 @@ impl<const N: usize> Text<N> {
         self.add(digits.format(number).as_bytes());
     }
 
-    /// Takes a number. One of one digit, as most are, is laid down in place.
+    /// Adds a number. One digit, the usual case, is written in place.
     #[inline(always)]
     #[tactic(auto, using(std::proofs::lemmas::Fmt::decimal_digit))]
     pub(crate) fn number(&mut self, number: u32)
@@ -181,7 +181,7 @@ impl<const N: usize> Text<N> {
         }
     }
 
-    /// Takes a further field of a record, after a comma.
+    /// Adds a further field of a record, after a comma.
     #[inline(always)]
     pub(crate) fn next(&mut self, field: &[u8])
         requires { length self.old + length field.now < N }
@@ -192,7 +192,7 @@ impl<const N: usize> Text<N> {
         self.add(field);
     }
 
-    /// Takes a further field that is a number.
+    /// Adds a further field that is a number.
     #[inline(always)]
     pub(crate) fn next_number(&mut self, number: u32)
         requires { length self.old + 11 ≤ N }

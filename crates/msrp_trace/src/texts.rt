@@ -1,4 +1,4 @@
-//! The texts of the cores' rows, kept as long as the cores do the same.
+//! The text of each core's row, stored while the core's rows differ only in the tick.
 ghost use Rattle.std.specs.Prelude.{◌≡◌, ◌≤◌, ◌<◌, ◌%◌};
 ghost use Rattle.msrp_plan.specs.Common.{All, ℕ, [], None, length, slice_index_or, slice_set, take, true};
 ghost use Rattle.msrp_trace.specs.Gathering.{after_tick};
@@ -15,8 +15,8 @@ use msrp_plan::{Plan, Row, TextVersion};
 use std::array;
 use std::marker::Model;
 
-/// For each core the text of a row, but for its tick. As long as a core's rows differ in the tick alone they are written, and met,
-/// by the text that is here.
+/// For each core the text of a row, without its tick. While a core's rows differ only in the tick,
+/// this text is written, or compared with the next one read.
 #[derive(Drop)]
 pub struct RowTexts<'a> {
     plan: &'a Plan,
@@ -37,7 +37,6 @@ impl<'a> Model for RowTexts<'a> {
     ghost invariant = { AreTextsView };
 }
 
-// Makes the text of a core's row.
 #[inline(always)]
 fn make_text(
     lines: &mut [CoreText],
@@ -59,7 +58,7 @@ fn make_text(
     lines[core].make(plan, version, row, res);
 }
 
-/// What stands in a core's record after the tick.
+/// A core's record after the tick.
 #[inline(always)]
 pub(crate) fn text_of(lines: &[CoreText], core: usize) -> &Text<LINE>
     requires { core < length lines.now }

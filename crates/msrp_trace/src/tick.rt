@@ -1,10 +1,10 @@
-//! The text of a tick, which stands in the records of all cores.
+//! The text of a tick, made once for the records of all cores.
 ghost use Rattle.std.specs.Prelude.{◌≡◌};
 ghost use Rattle.msrp_plan.specs.Common.{decimal, true};
 
 use crate::text::Text;
 
-/// No number of 32 bits has more than 10 digits.
+/// More than the 10 digits of a number of 32 bits.
 pub(crate) const NUMBER: usize = 16;
 
 /// A tick, and its text.
@@ -23,7 +23,8 @@ impl Tick {
         Tick { tick: 0, text }
     }
 
-    // Counts up to this tick, where it is the next one and doesn't end in 0: its text has another last digit. Else nothing changes.
+    // Counts up to this tick if it is the next one and doesn't end in 0: only the last digit
+    // changes. Otherwise nothing does.
     #[inline(always)]
     fn count(&mut self, tick: u32) -> bool
         ensures { result ≡ true → self.new.tick ≡ tick }

@@ -1,4 +1,4 @@
-//! The words of trace text.
+//! The fixed words of trace text.
 ghost use Rattle.std.specs.Prelude.{◌≡◌, ◌≤◌};
 ghost use Rattle.msrp_plan.specs.Common.{length};
 ghost use Rattle.msrp_trace.specs.Rows.{kind_named};
@@ -6,10 +6,10 @@ ghost use Rattle.msrp_text.specs.PlanText.{version_text};
 
 use msrp_plan::{Kind, TextVersion};
 
-/// The word that a trace's text begins with.
+/// The first word of a trace's text.
 pub(crate) const TRACE_WORD: &[u8] = b"msrp-trace";
 
-/// What stands where a row has no job, no resource or no ahead.
+/// The field of a job, resource or ahead that a row lacks.
 pub(crate) const DASH: &[u8] = b"-";
 
 /// The kind of a word.

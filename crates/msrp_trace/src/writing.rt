@@ -1,4 +1,4 @@
-//! Trace text, written.
+//! Trace text, written; a core's repeated row reuses its text.
 ghost use Rattle.std.specs.Prelude.{◌≡◌, ◌<◌, ◌++◌};
 ghost use Rattle.msrp_plan.specs.Common.{[], decimal, length, slice_index_or, true, false, OnOk, OnErr, All, list_all, carries_ahead, Wrote, sink_failed};
 ghost use Rattle.msrp_trace.specs.Gathering.{Gathers, after_tick};
@@ -19,15 +19,15 @@ use std::array;
 use std::io::Write;
 use std::marker::Model;
 
-/// A writer of trace text of a plan, in a version, over a sink, which is passed to each call and is given some kilobytes at a
-/// time. What a core repeats isn't made again: a row that differs from the core's last one in the tick alone takes its text.
+/// Writes trace text of a plan, in one version, some kilobytes at a time, to the sink given to each
+/// call. A row that differs only in the tick from its core's last one reuses its text.
 #[derive(Drop)]
 pub struct TraceWriter<'a> {
     plan: &'a Plan,
     version: TextVersion,
     page: Page,
     tick: Tick,
-    // What the cores had last, by their numbers.
+    // The last row of each core, by number.
     lines: [RowLine; MOST_CORES as usize],
     res: ResTexts,
 }
@@ -65,7 +65,7 @@ fn show_line(
     lines[core].show(plan, version, row, res);
 }
 
-// The record of a row: its tick, and what its core's line says.
+// The record of a row: its tick, then its core's line.
 #[inline(always)]
 fn add_record<W: Write>(
     page: &mut Page,
@@ -81,7 +81,7 @@ fn add_record<W: Write>(
 }
 
 impl<'a> TraceWriter<'a> {
-    /// A writer that was given nothing.
+    /// A writer before the first record.
     pub fn new(plan: &'a Plan, version: TextVersion) -> TraceWriter<'a>
         ensures { result ≡ record { plan = plan.now; version = version; text = [] } }
     {
@@ -120,7 +120,7 @@ impl<'a> TraceWriter<'a> {
         add_record(&mut self.page, out, &self.tick, &self.lines, core);
     }
 
-    /// Writes the record of a core in a tick, by the text that is kept of its row.
+    /// Writes the record of a core in a tick, with the stored text of its row.
     #[inline(always)]
     pub fn again<W: Write>(
         &mut self,
@@ -138,7 +138,7 @@ impl<'a> TraceWriter<'a> {
         self.page.add_both(out, self.tick.text(), line);
     }
 
-    /// Writes what is still gathered, and tells how the writes went.
+    /// Writes what is still gathered, and returns whether all writes succeeded.
     pub fn finish<W: Write>(mut self, out: &mut Sink<W>) -> Result<(), WriteFault>
         ensures wrote { Wrote W.contents out.old out.new self.entry.text }
         ensures good { OnOk result (sink_failed out.new ≡ false) }
@@ -149,7 +149,7 @@ impl<'a> TraceWriter<'a> {
     }
 }
 
-/// Whether the row names a task and a resource of the plan, if it names any.
+/// Whether the row names only tasks and resources of the plan.
 #[inline]
 pub fn is_named(plan: &Plan, row: &Row) -> bool
     ensures { result ≡ is_named plan.now row.now }
@@ -157,7 +157,6 @@ pub fn is_named(plan: &Plan, row: &Row) -> bool
     is_task_of(plan, row.job) && is_res_of(plan, row.res)
 }
 
-// Whether the job, if there is one, is of a task of the plan.
 fn is_task_of(plan: &Plan, job: Option<JobId>) -> bool
     ensures { result ≡ is_task_of plan.now job }
 {
@@ -167,7 +166,6 @@ fn is_task_of(plan: &Plan, job: Option<JobId>) -> bool
     }
 }
 
-// Whether the resource, if there is one, is one of the plan's.
 fn is_res_of(plan: &Plan, res: Option<ResId>) -> bool
     ensures { result ≡ is_res_of plan.now res }
 {
@@ -177,7 +175,7 @@ fn is_res_of(plan: &Plan, res: Option<ResId>) -> bool
     }
 }
 
-/// Whether all rows of a trace name tasks and resources of the plan, as its text needs.
+/// Whether all rows of a trace name only tasks and resources of the plan, as its text requires.
 pub fn are_named(plan: &Plan, trace: &Trace) -> bool
     ensures { result ≡ list_all (is_named plan.now) trace.now.rows.items }
 {
@@ -185,8 +183,7 @@ pub fn are_named(plan: &Plan, trace: &Trace) -> bool
 }
 
 /// Writes a trace of the plan: in version 2 with the ahead of each queue row, in version 1 without.
-///
-/// After a write fault what was written is a first part of the text.
+/// After a write fault the output is a prefix of the text.
 pub fn write_trace<W: Write>(
     writer: &mut Sink<W>,
     plan: &Plan,

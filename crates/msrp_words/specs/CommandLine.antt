@@ -1,4 +1,4 @@
--- The words that the program takes, as the parser is told of them, and what is answered.
+-- The program's arguments as they are declared to the parser, and the answers to them.
 use Rattle.std.specs.Prelude.{◌≡◌, ◌∷◌}
 use Rattle.msrp_plan.specs.Common.{false, List, [], Option, Some, None, codes, IsOkAnd, Result}
 use Rattle.clap.specs.Words.{App, IsAmong, Kinds, Row, Rule, Text, app_of, new_app, new_rule, rule_of, with_rule, with_subcommand}
@@ -12,11 +12,11 @@ use Rattle.msrp_cli.specs.Arguments.{fault_of_words, flag, help_unless, valued, 
 use Rattle.msrp_faults.specs.declared.faults.CliFault.{CliFault}
 
 -- ---- arguments
--- the path of a plan, which need not be given
+-- the path of a plan, which is optional
 abbrev pub plan : Rule
 plan = new_rule (codes "PLAN")
 
--- the order of the cores, and whether aheads are told
+-- the order of the cores, and whether rows carry aheads
 abbrev pub order : Rule
 order = valued (codes "order")
 
@@ -51,26 +51,26 @@ with_judges words = with_subcommand (with_subcommand words audit.top) (judge (co
 unfoldable pub grammar : App
 grammar = with_subcommand (with_judges (with_runs (new_app (codes "msrp")))) check.top
 
--- the parser was told of these words
+-- the parser has this grammar
 abbrev pub Takes : App → Command → Type 0
 Takes words command = app_of command ≡ words
 
--- the parser is told so of this argument, which only its command takes
+-- the parser has this argument, which only its command takes
 abbrev pub Declares : Rule → Arg → Type 0
 Declares rule arg = (rule_of arg ≡ rule) × (arg.global ≡ false)
 
 -- ---- answers
--- what a fault of the words is answered: the help where it is asked for, which is no fault
+-- the answer to a parser's error; a request for help isn't a fault
 abbrev pub answer_to : ErrorKind → Result Cmd CliFault
 answer_to kind = help_unless Help (fault_of_words kind)
 
--- words without a command ask for what `sim` asks for with nothing after it, the simulation of standard input; those after a
--- command ask for that command, as they tell it, or for what it doesn't take
+-- without a command the arguments ask for `sim` with nothing after it, the simulation of standard
+-- input; otherwise for their command, or for something that it doesn't take
 abbrev pub IsChosen : Option (Text × List Row) → Result Cmd CliFault → Type 0
 IsChosen None result = IsOkAnd result (IsCommand (codes "sim") [])
 IsChosen (Some given) result = IsAsked given.0 given.1 result
 
--- the answer to words of which the parser tells these kinds of fault, and else this command with what it was given
+-- the answer if the parser has these kinds of fault; otherwise this command with its arguments
 abbrev pub IsAnswered : Kinds → Option (Text × List Row) → Result Cmd CliFault → Type 0
 IsAnswered [] given result = IsChosen given result
 IsAnswered (k ∷ kinds) given result = (j : ErrorKind) × IsAmong j (k ∷ kinds) × (result ≡ answer_to j)

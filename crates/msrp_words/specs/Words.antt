@@ -13,16 +13,16 @@ use Rattle.msrp_faults.specs.declared.faults.CliFault.{CliFault}
 use Rattle.msrp_faults.specs.declared.faults.CliFault.TheVariants.{Usage}
 
 -- ---- arguments, by what the parser found
--- the path of the plan: standard input where none is given
+-- the path of the plan; standard input if none is given
 abbrev pub plan_path : List Row → Text
 plan_path rows = unwrap_or (first_of (codes "PLAN") rows) (codes "-")
 
--- the order of the cores that a word names: rising where none is given
+-- the order that a word names; rising if there is none
 abbrev pub order_of : Option Text → Option Order
 order_of None = Some Asc
 order_of (Some word) = if bytes_eq word (codes "asc") then Some Asc else if bytes_eq word (codes "desc") then Some Desc else if bytes_eq word (codes "rot") then Some Rot else None
 
--- the version of a trace: the second tells aheads
+-- the version of a trace: the second carries aheads
 abbrev pub version_of : List Row → TextVersion
 version_of rows = if is_given (codes "ahead") rows then V2 else V1
 
@@ -37,7 +37,7 @@ word_of (Check plan) = codes "check"
 word_of (CheckText plan) = codes "check"
 word_of Help = codes "help"
 
--- the command that these rows tell, its word aside; the help is told as a fault of the words
+-- the command with these arguments, its word aside; the help is found as a parser's error
 abbrev pub IsTold : List Row → Cmd → Type 0
 IsTold rows (Sim order version plan) = (order_of (first_of (codes "order") rows) ≡ Some order) × (version ≡ version_of rows) × (plan.now ≡ plan_path rows)
 IsTold rows (Run version plan) = (version ≡ version_of rows) × (plan.now ≡ plan_path rows)
@@ -47,11 +47,11 @@ IsTold rows (Check plan) = (is_given (codes "text") rows ≡ false) × (plan.now
 IsTold rows (CheckText plan) = (is_given (codes "text") rows ≡ true) × (plan.now ≡ plan_path rows)
 IsTold rows Help = ⊥
 
--- the command of that word, as these rows tell it
+-- the command of that word with these arguments
 abbrev pub IsCommand : Text → List Row → Cmd → Type 0
 IsCommand word rows command = (word_of command ≡ word) × IsTold rows command
 
--- the command that is asked for; usage exactly if there is none
+-- the requested command; usage exactly if there is none
 abbrev pub IsAsked : Text → List Row → Result Cmd CliFault → Type 0
 IsAsked word rows (Ok command) = IsCommand word rows command
 IsAsked word rows (Err fault) = (fault ≡ Usage) × ((command : Cmd) → IsCommand word rows command → ⊥)

@@ -1,4 +1,4 @@
-//! The command line: the words of a command, and what they ask for.
+//! The command line of `msrp`: its grammar, and the command that its arguments ask for.
 ghost use Rattle.std.specs.Prelude.{◌≡◌, ◌⊎◌};
 ghost use Rattle.msrp_plan.specs.Common.{codes, false, map, ok_or, option_map, string_bytes, true, Err, IfErr, IfOk};
 ghost use Rattle.clap.specs.Words.{App, Rule, fault_of, found_of, new_app, rows_of, rule_of, subcommand_of, subcommand_rows_of, with_rule, with_subcommand};
@@ -17,7 +17,7 @@ use msrp_plan::TextVersion;
 use msrp_sim::Order;
 use std::alloc::{AllocError, Global};
 
-/// A command, with its words. A path `-` is standard input.
+/// A command, with its arguments. A path `-` is standard input.
 #[derive(Debug, Drop)]
 pub enum Cmd<'a> {
     /// Simulates the plan on one thread.
@@ -54,7 +54,7 @@ pub enum Cmd<'a> {
     Help,
 }
 
-// The words of arguments, by which they are declared and found again.
+// The names of arguments, to declare and to find them.
 const ORDER: &str = "order";
 
 const AHEAD: &str = "ahead";
@@ -110,7 +110,7 @@ fn order_arg<'a>(alloc: Global) -> Arg<'a>
     )
 }
 
-// Whether aheads are told.
+// Whether queue rows carry their aheads.
 fn ahead_arg<'a>(alloc: Global) -> Arg<'a>
     ensures rule { rule_of result ≡ line.ahead }
     ensures own { result.global ≡ false }
@@ -179,7 +179,7 @@ fn audit<'a>(alloc: Global) -> Result<Command<'a>, AllocError>
     )
 }
 
-// The program's words, with one command more, if both could be made.
+// The program's grammar with one more command, if both could be made.
 fn with_command<'a>(
     program: Result<Command<'a>, AllocError>,
     made: Result<Command<'a>, AllocError>,
@@ -189,7 +189,7 @@ fn with_command<'a>(
     program?.subcommand(made?)
 }
 
-// The commands that make traces, those that judge them, and the plan's own.
+// The commands that make traces, those that judge them, and those on a plan's text.
 fn grammar<'a>(alloc: Global) -> Result<Command<'a>, AllocError>
     ensures { IfOk result (Takes line.grammar) }
 {
@@ -211,7 +211,7 @@ fn program_help(alloc: Global) -> Result<String, CliFault>
     Ok(command.render_help()?)
 }
 
-// The help that an answer of the parser is, or else that of the program.
+// The help in a parser's answer, otherwise the program's.
 fn help_in(alloc: Global, answer: Error) -> Result<String, CliFault>
     ensures { IfErr result (λ fault. fault ≡ CliFault.Memory) }
 {
@@ -222,8 +222,8 @@ fn help_in(alloc: Global, answer: Error) -> Result<String, CliFault>
     }
 }
 
-/// The text of the help that these words ask for: that of the command before `--help` or after `help`, or else that of the
-/// program.
+/// The help that these arguments ask for: that of the command before `--help` or after `help`,
+/// otherwise the program's.
 pub fn help_text<'a>(alloc: Global, words: &'a [String]) -> Result<String, CliFault>
     ensures { IfErr result (λ fault. fault ≡ CliFault.Memory) }
 {
@@ -233,7 +233,7 @@ pub fn help_text<'a>(alloc: Global, words: &'a [String]) -> Result<String, CliFa
     }
 }
 
-// Why arguments that the parser accepts are no command: the order, or else standard input twice.
+// Why arguments that the parser accepts are no command: the order, otherwise standard input twice.
 fn misuse_in(alloc: Global, matches: &ArgMatches<'_>) -> Result<String, AllocError> {
     let order = match matches.subcommand() {
         Some(("sim", words)) => value_of(words, ORDER),
@@ -250,7 +250,7 @@ fn misuse_in(alloc: Global, matches: &ArgMatches<'_>) -> Result<String, AllocErr
     }
 }
 
-/// Why these words are no command, for a person.
+/// Why these arguments are no command, for a person.
 pub fn usage_text<'a>(alloc: Global, words: &'a [String]) -> Result<String, CliFault>
     ensures { IfErr result (λ fault. fault ≡ CliFault.Memory) }
 {
@@ -260,7 +260,7 @@ pub fn usage_text<'a>(alloc: Global, words: &'a [String]) -> Result<String, CliF
     }
 }
 
-// The path of the plan: standard input where none is given.
+// The path of the plan; standard input if none is given.
 fn plan_of<'a>(matches: &ArgMatches<'a>) -> &'a str
     ensures { result.now ≡ plan_path (rows_of (found_of matches.now)) }
 {
@@ -270,7 +270,7 @@ fn plan_of<'a>(matches: &ArgMatches<'a>) -> &'a str
     }
 }
 
-// The order of a word; rising where there is none.
+// The order that a word names; rising if there is none.
 fn order_of(word: Option<&str>) -> Result<Order, CliFault>
     ensures { result ≡ ok_or (order_of (option_map (λ word. word.now) word.entry)) CliFault.Usage }
 {
@@ -282,7 +282,7 @@ fn order_of(word: Option<&str>) -> Result<Order, CliFault>
     }
 }
 
-// The version of a trace: the second tells aheads.
+// The version of a trace: the second carries aheads.
 fn version_of(matches: &ArgMatches<'_>) -> TextVersion
     ensures { result ≡ version_of (rows_of (found_of matches.now)) }
 {
@@ -341,7 +341,7 @@ fn report_of<'a>(matches: &ArgMatches<'a>) -> Result<Cmd<'a>, CliFault>
     Ok(Cmd::Report { plan, trace })
 }
 
-// The command of a word, and what the words after it ask for.
+// The command of a word, with the arguments after it.
 fn command_named<'a>(word: &str, words: &ArgMatches<'a>) -> Result<Cmd<'a>, CliFault>
     ensures { IsAsked word.now (rows_of (found_of words.now)) result }
 {
@@ -355,7 +355,7 @@ fn command_named<'a>(word: &str, words: &ArgMatches<'a>) -> Result<Cmd<'a>, CliF
     }
 }
 
-// The command that is asked for: the simulation of standard input where none is.
+// The requested command; without one, the simulation of standard input.
 fn chosen<'a>(matches: &ArgMatches<'a>) -> Result<Cmd<'a>, CliFault>
     ensures { IsChosen (subcommand_rows_of matches.now) result }
 {
@@ -369,7 +369,7 @@ fn chosen<'a>(matches: &ArgMatches<'a>) -> Result<Cmd<'a>, CliFault>
     }
 }
 
-// What a fault of the words is answered: the help where it is asked for, which is no fault.
+// The answer to a parser's error; a request for help isn't a fault.
 fn answer_to<'a>(kind: ErrorKind) -> Result<Cmd<'a>, CliFault>
     ensures { result ≡ line.answer_to kind }
 {
@@ -379,7 +379,7 @@ fn answer_to<'a>(kind: ErrorKind) -> Result<Cmd<'a>, CliFault>
     }
 }
 
-/// The command that the words ask for; the first word is the program's name.
+/// The command that the arguments ask for; the first one is the program's name.
 pub fn command_of<'a>(alloc: Global, words: &'a [String]) -> Result<Cmd<'a>, CliFault>
     ensures { (result ≡ Err CliFault.Memory) ⊎ IsAnswered (fault_of line.grammar (map string_bytes words.now)) (subcommand_of line.grammar (map string_bytes words.now)) result }
 {

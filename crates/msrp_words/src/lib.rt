@@ -1,4 +1,4 @@
-//! The words of `msrp`: its commands, with their flags and paths, and its help.
+//! The command line of `msrp`: its commands, with their flags and paths, and its help.
 #![tactic(auto)]
 
 mod cli;

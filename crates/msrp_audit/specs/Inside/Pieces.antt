@@ -1,4 +1,4 @@
--- The pieces of an audit: which rule each of them finds broken at a row, and which fault it answers.
+-- The pieces of an audit: which rule each finds violated by a row, and which fault it reports.
 use Rattle.std.specs.Prelude.{◌∷◌, ◌++◌, ◌==◌, ◌&&◌, ◌≡◌, ◌≤◌, ◌+◌, ◌-◌, ◌*◌, ◌/◌, if◌then◌else◌}
 use Rattle.msrp_plan.specs.Common.{ℕ, List, Bool, nat_lt, nat_le, Option, Some, None, IfSome, fold, length, PlanModel, is_global, is_of, is_on, IsRunStart, is_in_turn, is_of_core, is_chosen, is_next_action, is_fifo_reply}
 use Rattle.msrp_plan.specs.declared.faults.Fault.{Fault}
@@ -9,11 +9,11 @@ use Rattle.msrp_audit.specs.declared.pieces.Piece.{Piece}
 use Rattle.msrp_audit.specs.declared.pieces.Piece.TheVariants.{Turns, Core, Resource}
 
 -- ---- the list of the pieces
--- the rows of so many ticks are one piece
+-- the rows of this many ticks are one piece
 abbrev pub ticks_a_piece : ℕ
 ticks_a_piece = 1250
 
--- how many parts the ticks have, of which the last may be empty
+-- the number of parts of the ticks; the last may be empty
 abbrev pub parts : PlanModel → ℕ
 parts plan = plan.ticks / ticks_a_piece + 1
 
@@ -63,8 +63,7 @@ abbrev pub told_at : ℕ → Option Fault → Option Rule
 told_at n None = None
 told_at n (Some f) = if f.row == n then Some f.rule else None
 
--- wherever the rows before are the start of a legal run, the answer names the rule that the test finds broken at the
--- next row, or no rule where it finds none
+-- after the start of a legal run, the answer is the rule that the test finds violated next, if any
 pub record TellsFirst (plan : PlanModel) (test : List Row → Row → Option Rule) (rows : List Row) (answer : Option Fault) : Type 0 where
   pub told : (pre : List Row) (r : Row) (post : List Row) → rows ≡ pre ++ r ∷ post → IsRunStart plan pre → told_at (length pre + 1) answer ≡ test pre r
   pub row : IfSome answer (λ f. (1 ≤ f.row) × (f.row ≤ length rows))
@@ -83,7 +82,7 @@ rule_number A7 = 7
 abbrev pub fault_order : Fault → ℕ
 fault_order f = f.row * 8 + rule_number f.rule
 
--- the earlier of two faults, of which one may be missing
+-- the earlier of two faults, if any
 abbrev pub earlier_of : Option Fault → Option Fault → Option Fault
 earlier_of (Some f) (Some g) = if nat_lt (fault_order g) (fault_order f) then Some g else Some f
 earlier_of (Some f) None = Some f
@@ -92,7 +91,7 @@ earlier_of None o = o
 abbrev pub earliest_of : List (Option Fault) → Option Fault
 earliest_of faults = fold earlier_of None faults
 
--- the fault of a length, where so many rows are due: a row is missing, or there is one too many
+-- the fault of a length, given the rows of a run: a row is missing, or there is one too many
 abbrev pub length_fault_of : ℕ → ℕ → Option Fault
 length_fault_of due rows =
     if nat_lt rows due then Some (record { row = rows + 1; rule = A6 })

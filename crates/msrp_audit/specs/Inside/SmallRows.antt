@@ -1,4 +1,4 @@
--- A row in eight bytes, and the row that it stands for.
+-- A row in eight bytes, and the row that it encodes.
 use Rattle.std.specs.Prelude.{◌∷◌, ◌++◌, ◌-◌}
 use Rattle.msrp_plan.specs.Common.{ℕ, List, [], map, nat_le, slice_index_or, ahead_of_kind, job_of_kind, res_of_kind}
 use Rattle.msrp_plan.specs.Shape.{carrier_of_kind, shape_of_kind}
@@ -38,6 +38,6 @@ row_of s = record {
   carrier = carrier_of_kind (kind_coded s.code) (nat_le 9 s.code) (s.code - 9);
 }
 
--- the small rows, and then the others
+-- the small rows, then the others
 abbrev pub rows_of : List SmallRow → List Row → List Row
 rows_of small others = map row_of small ++ others

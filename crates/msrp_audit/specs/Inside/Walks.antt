@@ -1,4 +1,4 @@
--- What a piece of an audit keeps as it goes over the rows.
+-- What a piece of an audit knows as it passes over the rows.
 use Rattle.std.specs.Prelude.{◌≡◌, ◌<◌}
 use Rattle.msrp_plan.specs.Common.{ℕ, List, length, slice_index_or, PlanModel, log_of}
 use Rattle.msrp_plan.specs.declared.rows.Row.{Row}

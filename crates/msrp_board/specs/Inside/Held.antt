@@ -1,4 +1,4 @@
--- How what a seat keeps at run time stands to what it knows, and how what it knows is told to callers.
+-- The relation of what a seat stores to what it knows, and to what callers see.
 use Rattle.msrp_plan.specs.Common.{ℕ, List, [], map, take, slice_index, Some, None, reverse, Bool, true, false, slice_index_or, ⊤, filter_map, most_resources}
 use Rattle.msrp_plan.specs.declared.units.Phase.{Phase}
 use Rattle.msrp_plan.specs.declared.units.Phase.TheVariants.{Free, Queued, Holding}
@@ -29,24 +29,24 @@ use Rattle.msrp_board.specs.Words.{high, low}
 use Rattle.msrp_board.specs.Inside.Newest.{claim_of}
 use Rattle.msrp_board.specs.Inside.Rule.{HasPage, HasOnly, IsKeptNewest, IsTiedNewest, page_has_acted}
 
--- what a seat keeps of a core at run time
+-- what a seat stores of a core
 abbrev pub state_of : Page → CoreState
 state_of b = record { tick = b.tick; claim = claim_of b.newest; admitted = b.admitted; stopped = b.stopped; acted = page_has_acted b }
 
--- the page of core c, where there is one
+-- the page of core c, if there is one
 abbrev pub page_at : List (Option Page) → ℕ → Option Page
 page_at pages c = slice_index_or pages c None
 
--- what is kept of core c
+-- what is stored of core c
 abbrev pub state_at : List (Option Page) → ℕ → Option CoreState
 state_at pages c = option_map state_of (page_at pages c)
 
--- what a chain keeps of core c: the state of the first node of that core
+-- what a chain stores of core c: the state of the first node of that core
 abbrev pub kept_of : States → ℕ → Option CoreState
 kept_of End c = None
 kept_of (Of' p core state more) c = if core.0 == c then Some (padded_value state) else kept_of more c
 
--- what is kept, where it is wanted
+-- what is stored, if it is wanted
 abbrev pub kept_if : Bool → Option CoreState → Option CoreState
 kept_if wanted kept = if wanted then kept else None
 
@@ -55,16 +55,16 @@ abbrev pub with_own : CoreState → States → States
 with_own own End = End
 with_own own (Of' p core state more) = Of' p core (padded_with_value state own) more
 
--- what a seat keeps of each core is what its page says
+-- what a seat stores of each core is what its page says
 abbrev pub AreStates : States → List (Option Page) → Type 0
 AreStates held pages = (c : ℕ) → kept_of held c ≡ state_at pages c
 
--- the seat has the page of core c and no other, and keeps its state
+-- the seat has the page of core c and no other, and stores its state
 pub record IsOwn (held : States) (v : View) (c : ℕ) (b : Page) : Type 0 where
   pub states : AreStates held v.pages
   pub only : HasOnly v c b
 
--- what is claimed is one of the first n resources
+-- the claim is on one of the first n resources
 abbrev pub IsBelow : ℕ → Claim → Type 0
 IsBelow n Nothing = ⊤
 IsBelow n (Waits g ticket) = g < n
@@ -92,7 +92,7 @@ pub record Shows (state : CoreState) (b : Book) : Type 0 where
   pub stopped : state.stopped ≡ b.stopped
   pub acted : state.acted ≡ has_acted b
 
--- the answer of a look, where the high half isn't 0, and where the low half is high enough
+-- the answer of a look, by whether the high half isn't 0, and whether the low half is high enough
 abbrev pub look_if : Bool → Bool → Look
 look_if true enough = Stopped
 look_if false true = Go
@@ -102,8 +102,8 @@ look_if false false = Wait
 abbrev pub look_of : ℕ → ℕ → ℕ → Look
 look_of m n t = look_if (ltb 0 (high n)) (leb (1 + m * t) (low n))
 
--- what holds of each seat: what it keeps of its cores and of the conductor is what its view says, its cores are the
--- board's, and each page keeps the rule's part on one page
+-- what holds of each seat: what it stores of its cores and of the conductor is what its view says,
+-- its cores are the board's, and each page obeys the rule's part on one page
 pub record IsHeld (z : BoardSize) (held : States) (conductor : Option Conductor) (me : Me (Unit {0}) View) : Type 0 where
   pub no_slot : me.1 ≡ []
   pub limits : IsSize z
@@ -112,14 +112,14 @@ pub record IsHeld (z : BoardSize) (held : States) (conductor : Option Conductor)
   pub cores : (c : ℕ) (b : Page) → HasPage me.0 c b → c < z.cores
   pub kept : (c : ℕ) (b : Page) → HasPage me.0 c b → IsKeptNewest z b
 
--- what holds of each board: its table keeps the rule at its size, and has a word for each resource and the barrier's
+-- what holds of each board: its table obeys the rule, with each resource's word and the barrier's
 pub record IsBoard (z key : BoardSize) (table : TableId) : Type 0 where
   pub keyed : key ≡ z
   pub words : table.words ≡ z.resources + 1
   pub no_slot : table.slots ≡ 0
   pub limits : IsSize z
 
--- the size, the words and the last seat of a board that nobody uses any more, as callers see them
+-- the size, the words and the last seat of a board after its last use, as callers see them
 abbrev pub settled_as : BoardSize → List ℕ → SeatModel → WholeBoard
 settled_as z words seat = record {
   size = z;

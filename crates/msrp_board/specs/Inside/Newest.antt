@@ -1,5 +1,5 @@
--- What a board keeps of its entries, the newest first, which is how one entry is added; callers see them oldest first.
--- A word that ends in `Newest` is the word of that name in `Books` or `History`, of the reversed list.
+-- A board's entries, the newest first, so that adding one is one step; callers see them oldest
+-- first. A definition that ends in `Newest` is that of `Books` or `History`, of the reversed list.
 use Rattle.std.specs.Prelude.{◌≡◌, ◌+◌, ◌/◌, ◌<◌, ◌≤◌, ◌∷◌, ◌⊎◌}
 use Rattle.msrp_plan.specs.Common.{ℕ, zero, suc, List, [], Bool, true, false, ⊤, FifoLock, Answers}
 use Rattle.msrp_plan.specs.declared.units.Call.{Call}
@@ -13,29 +13,29 @@ use Rattle.msrp_board.specs.History.{Event}
 
 -- ---- the history of a resource
 
--- one request more, where the call is one
+-- one more request, if the call is one
 abbrev pub asks_after : ℕ → Call → ℕ
 asks_after n (Ask a) = suc n
 asks_after n (Poll p) = n
 asks_after n Leave = n
 
--- one release more, where the call is one
+-- one more release, if the call is one
 abbrev pub leaves_after : ℕ → Call → ℕ
 leaves_after n (Ask a) = n
 leaves_after n (Poll p) = n
 leaves_after n Leave = suc n
 
--- how many requests there are
+-- the number of requests
 abbrev pub asks : List Event → ℕ
 asks [] = 0
 asks (r ∷ h) = asks_after (asks h) r.1.call
 
--- how many releases there are
+-- the number of releases
 abbrev pub leaves : List Event → ℕ
 leaves [] = 0
 leaves (r ∷ h) = leaves_after (leaves h) r.1.call
 
--- the cores that stand in the queue after these events
+-- the cores in the queue after these events
 abbrev pub queue : List Event → List ℕ
 queue [] = []
 queue (r ∷ h) = queue_after (queue h) r.0 r.1.call
@@ -77,24 +77,24 @@ are_polls (Poll p) (Poll q) = true
 are_polls (Poll p) Leave = false
 are_polls Leave k = false
 
--- where r and the event before it are polls, r is of a later tick, or of the same and of no lower core
+-- if r and the event before it are polls, r is of a later tick, or of the same and of no lower core
 abbrev pub IsPollAfter : Event → List Event → Type 0
 IsPollAfter r [] = ⊤
 IsPollAfter r (x ∷ h) = OnTrue (are_polls r.1.call x.1.call) ((x.1.tick < r.1.tick) ⊎ ((x.1.tick ≡ r.1.tick) × (x.0 ≤ r.0)))
 
--- polls that stand together stand by tick, then core
+-- adjacent polls are by tick, then core
 abbrev pub PollsNewest : List Event → Type 0
 PollsNewest [] = ⊤
 PollsNewest (r ∷ h) = PollsNewest h × IsPollAfter r h
 
 -- ---- the book of a core
 
--- the ticket of a request at this place with so many ahead of it: with n requests and r releases before it the place is
--- n + r and n - r are ahead, and its ticket is n
+-- the ticket of a request at this place with this many ahead: with n requests and r releases before
+-- it the place is n + r, n - r are ahead, and its ticket is n
 abbrev pub ticket_at : ℕ → ℕ → ℕ
 ticket_at place ahead = (place + ahead) / 2
 
--- the ticket that is claimed, 0 where there is none
+-- the ticket of the claim, 0 if there is none
 abbrev pub ticket_of : Claim → ℕ
 ticket_of Nothing = 0
 ticket_of (Waits g ticket) = ticket
@@ -119,7 +119,7 @@ IsClaimInTurn l g (Ask a) = l ≡ Nothing
 IsClaimInTurn l g (Poll p) = (t : ℕ) × (l ≡ Waits g t)
 IsClaimInTurn l g Leave = (t : ℕ) × (l ≡ Holds g t)
 
--- each call was due when it was made
+-- each call was allowed when it was made
 abbrev pub IsRegularNewest : List Entry → Type 0
 IsRegularNewest [] = ⊤
 IsRegularNewest (e ∷ es) = IsRegularNewest es × IsClaimInTurn (claim_of es) e.res.0 e.call

@@ -1,4 +1,4 @@
--- The rule of a board's words: what always holds of the words and of the books of all seats, and what each step tells.
+-- The rule of a board's words: what holds of the words and all books, and what each step promises.
 use Rattle.msrp_plan.specs.Common.{ℕ, suc, List, [], length, map, Bool, true, false, Some, None, replicate, slice_index, list_any, AllByRecursion}
 use Rattle.msrp_plan.specs.declared.units.Call.{Call}
 use Rattle.msrp_plan.specs.declared.units.Call.TheVariants.{Ask, Poll, Leave}
@@ -22,23 +22,23 @@ use Rattle.msrp_board.specs.Books.{IsSize, on_resource, admissions_of, AreBefore
 use Rattle.msrp_board.specs.History.{Event, by_core}
 use Rattle.msrp_board.specs.Inside.Newest.{asks, leaves, LegalNewest, PlacedNewest, IsRegularNewest, claim_of, ticket_of, TicksNewest, RisingNewest, PollsNewest}
 
--- the page of a core that did nothing yet
+-- the page of a core that has done nothing yet
 abbrev pub empty_page : Page
 empty_page = record { newest = []; tick = 0; admitted = false; stopped = false }
 
--- what the first seat holds
+-- what the first seat has
 abbrev pub first_view : BoardSize → View
 first_view z = record { pages = replicate z.cores (Some empty_page); conductor = Some Unopened }
 
--- the view has this book of the core
+-- the view has this page of the core
 abbrev pub HasPage : View → ℕ → Page → Type 0
 HasPage v c b = get_elem? v.pages c ≡ some (Some b)
 
--- the seat i holds a, under the number k
+-- the seat i has a, under the number k
 abbrev pub OwnsBy : {V A : Type 0} → (V → ℕ → A → Type 0) → List V → ℕ → ℕ → A → Type 0
 OwnsBy {V} has views i k a = (v : V) × (get_elem? views i ≡ some v) × has v k a
 
--- what holds of each number is held by one seat, and nothing else is held
+-- each number's fact is with one seat, and no seat has anything else
 pub record SharedBy {V A : Type 0} (has : V → ℕ → A → Type 0) (views : List V) (truth : ℕ → A → Type 0) : Type 0 where
   pub true_of : (i k : ℕ) (a : A) → OwnsBy has views i k a → truth k a
   pub with_no_other : (i j k : ℕ) (a d : A) → OwnsBy has views i k a → OwnsBy has views j k d → i ≡ j
@@ -60,11 +60,11 @@ HasConductor v k o = (k ≡ 0) × (v.conductor ≡ Some o)
 abbrev pub SharedConductor : List View → Conductor → Type 0
 SharedConductor views o = SharedBy HasConductor views (λ k x. (k ≡ 0) × (o ≡ x))
 
--- the ticks below it are those to which the core is or was admitted
+-- the ticks below this are those to which the core is or was admitted
 abbrev pub page_admissions : Page → ℕ
 page_admissions b = admissions_of b.admitted b.tick
 
--- how many arrivals there are
+-- the number of arrivals
 abbrev pub arrivals : List Page → ℕ
 arrivals [] = 0
 arrivals (b ∷ bs) = b.tick + arrivals bs
@@ -73,9 +73,9 @@ arrivals (b ∷ bs) = b.tick + arrivals bs
 pub record Gathered (word : ℕ) (books : List Page) (o : Conductor) : Type 0 where
   -- it counts the arrivals and the opening in its low half, and the abort in its high half
   pub counts : word ≡ abort_count o * half_word + (arrivals books + opening_count o)
-  -- a core was told of an abort that was made
+  -- a core saw only an abort that was made
   pub told : (c : ℕ) (b : Page) → get_elem? books c ≡ some b → b.stopped ≡ true → o ≡ Aborted
-  -- whoever is or was admitted to a tick met all who left the ticks below
+  -- each core that is or was admitted to a tick met all that left the ticks below
   pub met : (c : ℕ) (b : Page) → get_elem? books c ≡ some b → 0 < page_admissions b → (o ≡ Opened) × ((d : ℕ) (e : Page) → get_elem? books d ≡ some e → page_admissions b ≤ suc e.tick)
 
 -- the history of g by these pages
@@ -88,7 +88,7 @@ pub record IsHistoryNewest (g : ℕ) (books : List Page) (log : List Event) : Ty
 abbrev pub IsTicketWord : ℕ → List Event → Type 0
 IsTicketWord word log = word ≡ asks log * half_word + leaves log
 
--- how many entries there are
+-- the number of entries
 abbrev pub entry_count : List Page → ℕ
 entry_count [] = 0
 entry_count (b ∷ bs) = length b.newest + entry_count bs
@@ -103,7 +103,7 @@ pub record IsServedNewest (g word : ℕ) (books : List Page) : Type 0 where
   pub rising : RisingNewest log
   pub polls : PollsNewest log
 
--- what every page keeps on a board of this size
+-- what holds of every page on a board of this size
 pub record IsKeptNewest (z : BoardSize) (b : Page) : Type 0 where
   pub within : page_admissions b ≤ z.ticks
   pub declared : AllByRecursion (λ e. e.res.0 < z.resources) b.newest
@@ -118,7 +118,7 @@ pub record IsTiedNewest (z : BoardSize) (words : List ℕ) (books : List Page) (
   pub kept : (c : ℕ) (b : Page) → get_elem? books c ≡ some b → IsKeptNewest z b
   pub gathered : Gathered (slice_index words z.resources) books o
 
--- the rule of a table: some pages and a conductor's book, each with one seat, are tied to the words
+-- the rule of a table: some pages and a conductor's book, each in one seat, are tied to the words
 pub record Ruled (z : BoardSize) (s : State (Unit {0}) View) : Type 0 where
   pub pages : List Page
   pub conductor : Conductor
@@ -162,13 +162,13 @@ pub record ViewIsAdmitted (v : View) : Type 0 where
   pub has : HasOnly v core page
   pub admitted : page.admitted ≡ true
 
--- ---- what each step makes of a page and of a view, and tells
+-- ---- what each step makes of a page and of a view, and promises
 
--- one entry more
+-- one more entry
 abbrev pub page_with : Entry → Page → Page
 page_with e b = record { newest = e ∷ b.newest; tick = b.tick; admitted = b.admitted; stopped = b.stopped }
 
--- one entry more, of the present tick
+-- one more entry, of the present tick
 abbrev pub page_with_entry : ℕ → ℕ → Call → Page → Page
 page_with_entry g p k b = page_with record { tick = b.tick; res = record { 0 = g }; place = p; call = k } b
 
@@ -180,11 +180,11 @@ page_with_ask g n = page_with_entry g (high n + low n) (Ask (high n - low n))
 abbrev pub with_pages : (Page → Page) → View → View
 with_pages f v = record { pages = map (option_map f) v.pages; conductor = v.conductor }
 
--- an answer's place is behind all that the books have of the resource
+-- an answer's place is after all that the books have of the resource
 abbrev pub ViewIsBehind : View → ℕ → ℕ → Type 0
 ViewIsBehind v g p = (c : ℕ) (b : Page) → HasPage v c b → AreBefore p (on_resource g b.newest)
 
--- a poll of g that found the word n: granted where the ticket is served
+-- a poll of g that found the word n: granted if the ticket is served
 abbrev pub page_with_poll : ℕ → ℕ → Page → Page
 page_with_poll g n b = page_with_entry g (high n + low n) (Poll (low n == ticket_of (claim_of b.newest))) b
 
@@ -192,23 +192,24 @@ page_with_poll g n b = page_with_entry g (high n + low n) (Poll (low n == ticket
 abbrev pub page_with_leave : ℕ → ℕ → Page → Page
 page_with_leave g n = page_with_entry g (high n + low n) Leave
 
--- what a step on the ticket word of a resource tells, which makes f of each page: at the word n that it found the low half
--- isn't above the high one, and the place is small and behind all that the pages have of the resource
+-- what a step on a resource's ticket word promises, which makes f of each page: the word n that it
+-- found has no more releases than requests; the place is small, and after all that the pages have
+-- of it
 pub record Tells (f : ℕ → ℕ → Page → Page) (st : Step (Unit {0})) (me : Me (Unit {0}) View) (n : ℕ) (now : Me (Unit {0}) View) : Type 0 where
   pub changed : now ≡ (with_pages (f st.word n) me.0, me.1)
   pub order : low n ≤ high n
   pub small : high n + low n < 2 ^ 32
   pub behind : ViewIsBehind me.0 st.word (high n + low n)
 
--- what a request tells
+-- what a request promises
 abbrev pub TellsAsk : Step (Unit {0}) → Me (Unit {0}) View → ℕ → Me (Unit {0}) View → Type 0
 TellsAsk = Tells page_with_ask
 
--- what a poll tells
+-- what a poll promises
 abbrev pub TellsPoll : Step (Unit {0}) → Me (Unit {0}) View → ℕ → Me (Unit {0}) View → Type 0
 TellsPoll = Tells page_with_poll
 
--- what a release tells
+-- what a release promises
 abbrev pub TellsLeave : Step (Unit {0}) → Me (Unit {0}) View → ℕ → Me (Unit {0}) View → Type 0
 TellsLeave = Tells page_with_leave
 
@@ -217,7 +218,7 @@ pub record IsTicket (word : TicketWord) : Type 0 where
   pub order : word.serving ≤ word.next
   pub small : word.next + word.serving < 2 ^ 32
 
--- one entry more, whose place stands behind all that the pages have of the resource
+-- one more entry, at a place after all that the pages have of the resource
 pub record HasEntered (g p : ℕ) (k : Call) (me now : Me (Unit {0}) View) : Type 0 where
   pub changed : now ≡ (with_pages (page_with_entry g p k) me.0, me.1)
   pub behind : ViewIsBehind me.0 g p
@@ -234,7 +235,7 @@ view_alone c v = record { pages = only_at c v.pages; conductor = None }
 abbrev pub view_both : View → View → View
 view_both v w = record { pages = together v.pages w.pages; conductor = either v.conductor w.conductor }
 
--- what a seat holds that was joined to another
+-- what a seat has after it was joined to another
 abbrev pub spent : View
 spent = record { pages = []; conductor = None }
 
@@ -242,7 +243,7 @@ spent = record { pages = []; conductor = None }
 abbrev pub page_with_arrival : Page → Page
 page_with_arrival b = record { newest = b.newest; tick = suc b.tick; admitted = false; stopped = b.stopped }
 
--- what an arrival tells
+-- what an arrival promises
 abbrev pub TellsArrival : Step (Unit {0}) → Me (Unit {0}) View → ℕ → Me (Unit {0}) View → Type 0
 TellsArrival st me n now = now ≡ (with_pages page_with_arrival me.0, me.1)
 
@@ -256,15 +257,15 @@ page_after_look_if false false b = b
 abbrev pub page_after_look : ℕ → ℕ → Page → Page
 page_after_look m n b = page_after_look_if (ltb 0 (high n)) (leb (1 + m * b.tick) (low n)) b
 
--- where the high half isn't 0, no core has left tick 0
+-- if the high half isn't 0, no core has left tick 0
 abbrev pub AtStart : ℕ → View → Type 0
 AtStart n v = (c : ℕ) (b : Page) → HasPage v c b → ltb 0 (high n) ≡ true → b.tick ≡ 0
 
--- what a look tells, on a board of m cores
+-- what a look promises, on a board of m cores
 abbrev pub TellsLook : ℕ → Step (Unit {0}) → Me (Unit {0}) View → ℕ → Me (Unit {0}) View → Type 0
 TellsLook m st me n now = (now ≡ (with_pages (page_after_look m n) me.0, me.1)) × AtStart n me.0
 
--- a seat that is left as it is was one of those of a state under the rule
+-- a seat that a step leaves as it is was part of a state that obeys the rule
 pub record IsUnderRule (z : BoardSize) (me now : Me (Unit {0}) View) : Type 0 where
   pub same : now ≡ me
   pub state : State (Unit {0}) View
@@ -272,7 +273,7 @@ pub record IsUnderRule (z : BoardSize) (me now : Me (Unit {0}) View) : Type 0 wh
   pub ruled : Ruled z state
   pub there : get_elem? state.views seat ≡ some me.0
 
--- what a step tells that changes nothing
+-- what a step promises that changes nothing
 abbrev pub TellsRule : BoardSize → Step (Unit {0}) → Me (Unit {0}) View → ℕ → Me (Unit {0}) View → Type 0
 TellsRule z st me n now = IsUnderRule z me now
 
@@ -280,10 +281,10 @@ TellsRule z st me n now = IsUnderRule z me now
 abbrev pub view_with_conductor : Conductor → View → View
 view_with_conductor o v = record { pages = v.pages; conductor = Some o }
 
--- what the opening tells
+-- what the opening promises
 abbrev pub TellsOpening : Step (Unit {0}) → Me (Unit {0}) View → ℕ → Me (Unit {0}) View → Type 0
 TellsOpening st me n now = now ≡ (view_with_conductor Opened me.0, me.1)
 
--- what an abort tells
+-- what an abort promises
 abbrev pub TellsAbort : Step (Unit {0}) → Me (Unit {0}) View → ℕ → Me (Unit {0}) View → Type 0
 TellsAbort st me n now = now ≡ (view_with_conductor Aborted me.0, me.1)

@@ -1,4 +1,4 @@
--- The rows of a trace's text that are gathered before they are judged, and what is found in them.
+-- The rows of a trace's text, gathered before they are judged, and the finding on them.
 use Rattle.std.specs.Prelude.{◌≡◌, ◌⊎◌, ◌≤◌, if◌then◌else◌, ◌++◌}
 use Rattle.msrp_plan.specs.Common.{ℕ, Bool, true, false, ⊤, List, [], None, Some, length, option_map, Result}
 use Rattle.std.specs.declared.result.Result.TheVariants.{Ok, Err}
@@ -12,13 +12,13 @@ use Rattle.msrp_faults.specs.declared.faults.CliFault.{CliFault}
 use Rattle.msrp_faults.specs.declared.faults.CliFault.TheVariants.{Read}
 use Rattle.msrp_faults.specs.declared.faults.CliFault.TheVariants as cli
 
--- why no row behind these was gathered: there are as many as were asked for, or none is left; else a read failed, memory was
--- refused, or the record behind them is refused
+-- why no later row was gathered: there are as many as requested, or none is left; otherwise a read
+-- failed, memory ran out, or the next record is refused
 abbrev pub EndsBy : ℕ → Told → List Row → List Row → Result ⊤ CliFault → Type 0
 EndsBy most told rows rest (Ok done) = (most ≤ length rows) ⊎ ((rest ≡ []) × (told.refusal ≡ None))
 EndsBy most told rows rest (Err fault) = (fault ≡ Read) ⊎ (fault ≡ cli.Memory) ⊎ ((rest ≡ []) × (option_map trace_fault_of told.refusal ≡ Some fault))
 
--- these rows are the first of what is told
+-- these rows are the first of all rows
 pub record IsGathered (most : ℕ) (told : Told) (rows : List Row) (ended : Result ⊤ CliFault) : Type 0 where
   pub rest : List Row
   pub whole : told.rows ≡ rows ++ rest
@@ -29,7 +29,7 @@ abbrev pub is_missing : Rule → Bool
 is_missing A6 = true
 is_missing _ = false
 
--- rows that were judged so: where a fault ended the reading, none of them is missing
+-- the finding on rows with this verdict: if a fault ended the reading, no row counts as missing
 abbrev pub found_in : Result ⊤ Fault → Result ⊤ CliFault → Result (Result ⊤ Fault) CliFault
 found_in judged (Ok done) = Ok judged
 found_in (Ok good) (Err fault) = Err fault

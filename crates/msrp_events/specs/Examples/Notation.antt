@@ -22,7 +22,7 @@ task name core deadline steps = record { name = name; core = core; times = Every
 abbrev pub event : ℕ → ℕ → Action → Event
 event t c action = record { time = t; core = record { 0 = c }; number = None; action = action }
 
--- the same with its number among the records of the core
+-- an event with its number among the records of the core
 abbrev pub numbered : ℕ → Event → Event
 numbered n e = record e { number = Some n }
 

@@ -1,5 +1,5 @@
--- Two cores: hi and lo share cal, so lo holds hi up while it has cal; lo and far, of another core, share bus. An
--- operation takes 1 ns, and the kernel reacts within 2 ns.
+-- Two cores: hi and lo share cal, so lo blocks hi while it has cal; lo and far, of another core,
+-- share bus. An operation takes 1 ns, and the kernel reacts within 2 ns.
 use Rattle.std.specs.Prelude.{ℕ, List, [], ◌∷◌, ◌++◌, codes}
 use Rattle.msrp_plan.specs.Plan.{PlanModel}
 use Rattle.msrp_plan.specs.Examples.Notation.{job, locks, unlocks}
@@ -38,7 +38,7 @@ lo = job 1 0
 abbrev far : JobId
 far = job 2 0
 
--- lo locks cal, and hi comes while lo has it
+-- lo locks cal, and hi is released meanwhile
 abbrev held_up : List Event
 held_up = boot 0 0 ∷ boot 1 1 ∷ release 10 0 lo 210 ∷ switch 10 0 lo ∷ lock 12 0 lo cal ∷ release 13 0 hi 63 ∷ []
 
@@ -46,7 +46,7 @@ held_up = boot 0 0 ∷ boot 1 1 ∷ release 10 0 lo 210 ∷ switch 10 0 lo ∷ l
 abbrev preempted : List Event
 preempted = held_up ++ unlock 15 0 lo cal ∷ switch 16 0 hi ∷ []
 
--- hi ends, and lo goes on and requests bus
+-- hi ends, and lo continues and requests bus
 abbrev resumed : List Event
 resumed = preempted ++ lock 18 0 hi cal ∷ unlock 19 0 hi cal ∷ end 20 0 hi ∷ switch 21 0 lo ∷ request 22 0 lo bus ∷ []
 
@@ -66,11 +66,11 @@ abbrev pub after_stop : List Event
 after_stop = log ++ switch 90 1 hi ∷ []
 
 -- ---- faults
--- after the unlock lo runs on, and the core should run hi: the next record shows it
+-- after the unlock lo runs on, but the core should run hi: the next record shows it
 abbrev pub runs_on : List Event
 runs_on = held_up ++ unlock 15 0 lo cal ∷ request 19 0 lo bus ∷ []
 
--- the same, and lo acts in the last moment in which it may still run
+-- as before, but lo acts at the last moment at which it may still run
 abbrev pub acts_on : List Event
 acts_on = held_up ++ unlock 15 0 lo cal ∷ request 18 0 lo bus ∷ []
 

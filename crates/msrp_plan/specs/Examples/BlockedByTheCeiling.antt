@@ -1,5 +1,5 @@
--- A job that uses what another holds isn't started, although its deadline is earlier: lo holds r, whose ceiling is the
--- level of hi.
+-- A job isn't started while another holds a resource that it uses, although its deadline is
+-- earlier: lo holds r, whose ceiling is hi's level.
 use Rattle.std.specs.Prelude.{List, [], ◌∷◌, ◌++◌, codes}
 use Rattle.msrp_plan.specs.Plan.{PlanModel}
 use Rattle.msrp_plan.specs.Examples.Notation.{task, section, job, idle, run, runs, lock, unlock, changed}
@@ -27,6 +27,6 @@ hi = job 1 0
 abbrev pub rows : List Row
 rows = lock 0 0 lo 0 ∷ runs 1 3 0 lo ++ unlock 4 0 lo 0 ∷ lock 5 0 hi 0 ∷ run 6 0 hi ∷ unlock 7 0 hi 0 ∷ idle 8 0 ∷ []
 
--- hi is started at once, as its deadline alone would have it
+-- hi is started at once, as its deadline alone would require
 abbrev pub past_the_ceiling : List Row
 past_the_ceiling = changed rows 2 (lock 1 0 hi 0)

@@ -1,5 +1,5 @@
--- A blocked head holds up later jobs: k holds r; j2, first of those that wait, uses r too and is blocked; j, released
--- in tick 12, is of a level above the ceiling, but j2 comes before it.
+-- A blocked head holds up later jobs: k holds r; j2, the first waiting job, uses r too and is
+-- blocked; j, released in tick 12, has a level above the ceiling, but j2 comes before it.
 use Rattle.std.specs.Prelude.{List, [], ◌∷◌, ◌++◌, codes}
 use Rattle.msrp_plan.specs.Plan.{PlanModel}
 use Rattle.msrp_plan.specs.Examples.Notation.{task, works, section, job, idle, run, runs, lock, unlock, changed}

@@ -1,4 +1,4 @@
--- Rows that aren't legal, each list short of what one law promises, and past its bound by one.
+-- Rows that aren't legal; each list exceeds the bound of one law by one.
 use Rattle.std.specs.Prelude.{List, [], ◌∷◌, ◌++◌}
 use Rattle.msrp_plan.specs.Examples.Notation.{job, run, runs, lock, unlock, take, queue, spin}
 use Rattle.msrp_plan.specs.declared.rows.Row.{Row}

@@ -1,5 +1,5 @@
--- A relative deadline above the period: a second job of the task is released while the first is unfinished, and waits
--- behind it.
+-- A relative deadline above the period: a second job of the task is released while the first is
+-- unfinished, and waits for it.
 use Rattle.std.specs.Prelude.{List, [], ◌∷◌, ◌++◌, codes}
 use Rattle.msrp_plan.specs.Plan.{PlanModel}
 use Rattle.msrp_plan.specs.Examples.Notation.{task, works, job, run, runs, changed}

@@ -1,4 +1,4 @@
--- Equal absolute deadlines: the job that was released first goes first, whatever the numbers of the tasks.
+-- Equal absolute deadlines: the job released first runs first, for any task numbers.
 use Rattle.std.specs.Prelude.{List, [], ◌∷◌, ◌++◌, codes}
 use Rattle.msrp_plan.specs.Plan.{PlanModel}
 use Rattle.msrp_plan.specs.Examples.Notation.{task, works, job, idle, run, runs, changed}

@@ -1,4 +1,4 @@
--- The tasks of equal deadlines in the other order: still the job that was released first goes first.
+-- The tasks of equal deadlines in the other order: the job released first still runs first.
 use Rattle.std.specs.Prelude.{List, [], ◌∷◌, ◌++◌, codes}
 use Rattle.msrp_plan.specs.Plan.{PlanModel}
 use Rattle.msrp_plan.specs.Examples.Notation.{task, works, job, idle, run, runs, changed}

@@ -1,4 +1,4 @@
--- A section of a global resource inside one of a local resource: encode requests dma while it holds frame.
+-- A global resource's section inside a local one's: encode requests dma while it holds frame.
 use Rattle.std.specs.Prelude.{[], ◌∷◌, ◌++◌, codes}
 use Rattle.msrp_plan.specs.Plan.{PlanModel}
 use Rattle.msrp_plan.specs.Examples.Notation.{task, works, locks, unlocks, section}

@@ -1,4 +1,4 @@
--- The same plan with core 1 first in tick 2: it polls before core 0 releases, and is granted a tick later. Also legal.
+-- Also legal: core 1 goes first in tick 2, polls before core 0 releases, and is granted later.
 use Rattle.std.specs.Prelude.{List, [], ◌∷◌, codes}
 use Rattle.msrp_plan.specs.Plan.{PlanModel}
 use Rattle.msrp_plan.specs.Examples.Notation.{task, section, job, idle, run, take, queue, spin, grant, release, changed}

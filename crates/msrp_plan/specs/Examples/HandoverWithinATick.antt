@@ -1,5 +1,5 @@
--- Two cores want one resource. Core 0 has its turn first in each tick, so what it releases in tick 2 is granted to
--- core 1 in the same tick.
+-- Two cores want one resource. Core 0 has its turn first in each tick, so a resource that it
+-- releases in tick 2 is granted to core 1 in the same tick.
 use Rattle.std.specs.Prelude.{List, [], ◌∷◌, ◌++◌, codes}
 use Rattle.msrp_plan.specs.Plan.{PlanModel}
 use Rattle.msrp_plan.specs.Examples.Notation.{task, section, job, idle, run, take, queue, queue_behind, spin, grant, release, changed, without_last}
@@ -40,11 +40,11 @@ rows =
     ∷ idle 5 1
     ∷ []
 
--- the same, and b's request carries that a stands ahead
+-- the run, and b's request carries that a is ahead
 abbrev pub with_ahead : List Row
 with_ahead = changed rows 2 (queue_behind 0 1 b 0 1)
 
--- b's request carries that two stand ahead
+-- b's request carries that two are ahead
 abbrev pub ahead_miscounted : List Row
 ahead_miscounted = changed rows 2 (queue_behind 0 1 b 0 2)
 
@@ -56,7 +56,7 @@ turn_of_no_core = changed rows 1 (take 0 2 a 0)
 abbrev pub second_turn : List Row
 second_turn = changed rows 2 (queue 0 0 b 0)
 
--- a row of a tick that isn't due
+-- a row of another tick than the expected one
 abbrev pub tick_too_early : List Row
 tick_too_early = changed rows 2 (queue 1 1 b 0)
 
@@ -96,6 +96,6 @@ spin_when_first = changed rows 6 (spin 2 1 b 0)
 abbrev pub cut : List Row
 cut = without_last rows
 
--- the last row stands twice
+-- the last row is there twice
 abbrev pub doubled : List Row
 doubled = rows ++ idle 5 1 ∷ []

@@ -1,4 +1,4 @@
--- The jobs of one task go one after the other, each from its own release on: between two of them the core idles.
+-- A task's jobs run one after another, each from its release on; in between the core idles.
 use Rattle.std.specs.Prelude.{List, [], ◌∷◌, codes}
 use Rattle.msrp_plan.specs.Plan.{PlanModel}
 use Rattle.msrp_plan.specs.Examples.Notation.{task, works, job, idle, run, changed}

@@ -1,5 +1,5 @@
--- Two cores call one lock: core 0 requests it and holds it at once, core 1 is told that one is ahead, polls in
--- vain, and is granted the lock after core 0 has released it. The handover a tick later, as the lock sees it.
+-- Two cores call one lock: core 0 requests and holds it at once; core 1 learns that one is ahead,
+-- spins, and is granted it after core 0's release. The lock's view of the handover a tick later.
 use Rattle.std.specs.Prelude.{ℕ, List, [], ◌∷◌, true, false}
 use Rattle.msrp_plan.specs.declared.units.Call.{Call}
 use Rattle.msrp_plan.specs.declared.units.Call.TheVariants.{Ask, Poll, Leave}
@@ -11,7 +11,7 @@ history = (0, Ask 0) ∷ (1, Ask 1) ∷ (1, Poll false) ∷ (1, Poll false) ∷ 
 abbrev pub granted_too_soon : List (ℕ × Call)
 granted_too_soon = (0, Ask 0) ∷ (1, Ask 1) ∷ (1, Poll true) ∷ []
 
--- core 1 is told that nobody is ahead
+-- core 1 learns that nobody is ahead
 abbrev pub ahead_miscounted : List (ℕ × Call)
 ahead_miscounted = (0, Ask 0) ∷ (1, Ask 0) ∷ []
 

@@ -17,11 +17,11 @@ use Rattle.msrp_plan.specs.declared.rows.Row.{Row}
 abbrev pub task : List ℕ → ℕ → ℕ → ℕ → ℕ → List Op → TaskModel
 task name core period deadline offset units = record { name = name; core = core; times = Every period offset; deadline = deadline; units = units }
 
--- a task that is released at the ticks of a list: its name, core, relative deadline, ticks and units
+-- a listed task: its name, core, relative deadline, ticks and units
 abbrev pub listed : List ℕ → ℕ → ℕ → List ℕ → List Op → TaskModel
 listed name core deadline ticks units = record { name = name; core = core; times = Listed ticks; deadline = deadline; units = units }
 
--- so many units of work
+-- n units of work
 abbrev pub works : ℕ → List Op
 works n = replicate n unit.Run
 
@@ -31,7 +31,7 @@ locks g = unit.Lock (record { 0 = g })
 abbrev pub unlocks : ℕ → Op
 unlocks g = unit.Unlock (record { 0 = g })
 
--- so many units of work inside a lock
+-- n units of work inside a lock
 abbrev pub section : ℕ → ℕ → List Op
 section g n = locks g ∷ works n ++ unlocks g ∷ []
 
@@ -62,7 +62,7 @@ take t c j g = record { tick = t; core = record { 0 = c }; kind = kind.Take; job
 abbrev pub queue : ℕ → ℕ → JobId → ℕ → Row
 queue t c j g = record { tick = t; core = record { 0 = c }; kind = kind.Queue; job = Some j; res = Some (record { 0 = g }); ahead = None; shape = refl; carrier = refl }
 
--- the same, and the row carries that n stand ahead
+-- a queue row that carries that n jobs are ahead
 abbrev pub queue_behind : ℕ → ℕ → JobId → ℕ → ℕ → Row
 queue_behind t c j g n = record { tick = t; core = record { 0 = c }; kind = kind.Queue; job = Some j; res = Some (record { 0 = g }); ahead = Some n; shape = refl; carrier = refl }
 
@@ -84,6 +84,6 @@ changed rows n r = set rows (n - 1) r
 abbrev pub without_last : List Row → List Row
 without_last rows = list.take (length rows - 1) rows
 
--- the verdict: row n, counted from 1, breaks the rule
+-- the verdict: row n, counted from 1, violates the rule
 abbrev pub fault : ℕ → Rule → Option Fault
 fault n rule = Some (record { row = n; rule = rule })

@@ -1,4 +1,4 @@
--- A job of a level above the ceiling preempts a section: nobody but lo uses r, so its ceiling is only the level of lo.
+-- A job above the ceiling preempts a section: only lo uses r, so r's ceiling is lo's level.
 use Rattle.std.specs.Prelude.{List, [], ◌∷◌, ◌++◌, codes}
 use Rattle.msrp_plan.specs.Plan.{PlanModel}
 use Rattle.msrp_plan.specs.Examples.Notation.{task, works, section, job, idle, run, runs, lock, unlock, changed}

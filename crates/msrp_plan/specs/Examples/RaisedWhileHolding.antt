@@ -1,5 +1,5 @@
--- Who holds a global resource isn't preempted: its core stands at its highest level. The task other has no job before
--- tick 7, and g is global all the same.
+-- A holder of a global resource isn't preempted: its core's ceiling is its highest level. The task
+-- other has no job before tick 7, but still makes g global.
 use Rattle.std.specs.Prelude.{List, [], ◌∷◌, codes}
 use Rattle.msrp_plan.specs.Plan.{PlanModel}
 use Rattle.msrp_plan.specs.Examples.Notation.{task, works, section, job, idle, run, lock, take, release, changed}

@@ -1,4 +1,4 @@
--- Who is queued for a global resource isn't preempted either: its core stands at its highest level from the request on.
+-- A job queued for a global resource isn't preempted either: the ceiling rises at the request.
 use Rattle.std.specs.Prelude.{List, [], ◌∷◌, codes}
 use Rattle.msrp_plan.specs.Plan.{PlanModel}
 use Rattle.msrp_plan.specs.Examples.Notation.{task, works, section, job, idle, run, take, queue, spin, grant, release, changed}

@@ -1,4 +1,4 @@
--- Calls of a builder: plans in the making, to be asked for one thing more.
+-- Calls of a builder: unfinished plans, each before one more call.
 use Rattle.std.specs.Prelude.{ℕ, List, [], ◌∷◌, ◌++◌, map, replicate, codes}
 use Rattle.std.specs.List.{range_with_len}
 use Rattle.msrp_plan.specs.Plan.{PlanModel, TaskModel}
@@ -32,11 +32,11 @@ full_of_tasks = with_tasks (replicate 64 (task (codes "a") 0 20 10 0 (works 1)))
 abbrev pub eight_held : PlanModel
 eight_held = record { cores = 1; ticks = 1; resources = replicate 9 (codes "r"); tasks = task (codes "a") 0 20 10 0 (map locks (range_with_len 0 8)) ∷ [] }
 
--- core 0 locks h inside g, and core 1 the one after the other: both are global
+-- core 0 locks h inside g, and core 1 locks one after the other: both are global
 abbrev pub nested : PlanModel
 nested = with_tasks (task (codes "a") 0 20 10 0 (locks 0 ∷ section 1 0 ++ unlocks 0 ∷ []) ∷ task (codes "b") 1 20 10 0 (section 0 0 ++ section 1 0) ∷ [])
 
--- the same with a job of each task in every tick: far more than a plan may have
+-- the nested plan with a job of each task in every tick: far more than a plan may have
 abbrev pub nested_with_many_jobs : PlanModel
 nested_with_many_jobs = record { cores = 2; ticks = 20000; resources = codes "g" ∷ codes "h" ∷ []; tasks = task (codes "a") 0 1 10 0 (locks 0 ∷ section 1 0 ++ unlocks 0 ∷ []) ∷ task (codes "b") 1 1 10 0 (section 0 0 ++ section 1 0) ∷ [] }
 

@@ -1,5 +1,5 @@
--- A released resource with a queue isn't free: a requests g again before b has polled, and joins the end of the queue.
--- The cores take turns in going first.
+-- A released resource with a queue isn't free: a requests g again before b has polled, and joins
+-- the end of the queue. The cores alternate in going first.
 use Rattle.std.specs.Prelude.{List, [], ◌∷◌, ◌++◌, codes}
 use Rattle.msrp_plan.specs.Plan.{PlanModel}
 use Rattle.msrp_plan.specs.Examples.Notation.{task, section, job, idle, take, queue, spin, grant, release, changed}

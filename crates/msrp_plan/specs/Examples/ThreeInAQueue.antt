@@ -1,4 +1,4 @@
--- Three cores request one resource in one tick, core 2 first: it is granted in the order of the requests.
+-- Three cores request one resource in one tick, core 2 first: it is granted in request order.
 use Rattle.std.specs.Prelude.{List, [], ◌∷◌, codes}
 use Rattle.msrp_plan.specs.Plan.{PlanModel}
 use Rattle.msrp_plan.specs.Examples.Notation.{task, section, job, idle, run, take, queue, spin, grant, release, changed}

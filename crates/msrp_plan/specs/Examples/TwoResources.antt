@@ -1,4 +1,4 @@
--- Two global resources in one run: each has a queue of its own, and a job asks for what its unit names.
+-- Two global resources in one run, each with its own queue; a job requests its unit's resource.
 use Rattle.std.specs.Prelude.{List, [], ◌∷◌, ◌++◌, codes}
 use Rattle.msrp_plan.specs.Plan.{PlanModel}
 use Rattle.msrp_plan.specs.Examples.Notation.{task, section, job, idle, run, take, queue, release, changed}

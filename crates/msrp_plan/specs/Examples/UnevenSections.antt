@@ -1,4 +1,4 @@
--- Three cores, of which core 2 doesn't use g: its bound counts for nothing, and of the sections of core 0 the longest.
+-- Three cores; core 2 doesn't use g and adds nothing to the bound; core 0 adds its longest section.
 use Rattle.std.specs.Prelude.{[], ◌∷◌, ◌++◌, codes}
 use Rattle.msrp_plan.specs.Plan.{PlanModel}
 use Rattle.msrp_plan.specs.Examples.Notation.{task, works, section}

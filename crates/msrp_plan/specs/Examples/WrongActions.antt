@@ -1,4 +1,4 @@
--- The handover within a tick with replies that the job may not ask for: it is the action that is wrong, not the reply.
+-- The handover within a tick with replies to wrong questions: the action is wrong, not the reply.
 use Rattle.std.specs.Prelude.{List}
 use Rattle.msrp_plan.specs.Examples.Notation.{job, take, spin, changed}
 use Rattle.msrp_plan.specs.Examples.HandoverWithinATick.{rows}

@@ -1,4 +1,4 @@
--- Resources that are marked in a list of tests, by their numbers: a draft marks those that are global.
+-- Resources marked in a list of tests, by their numbers: a draft marks the global ones.
 use Rattle.std.specs.Prelude.{ℕ, List, Bool, false, not, ◌&&◌, ◌||◌, ◌≡◌, slice_index_or}
 use Rattle.msrp_plan.specs.Plan.{PlanModel}
 use Rattle.msrp_plan.specs.Levels.{is_global}

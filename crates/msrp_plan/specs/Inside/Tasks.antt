@@ -1,4 +1,4 @@
--- What a clause sees of a task as it is stored.
+-- What a clause sees of a stored task.
 use Rattle.std.specs.Prelude.{ℕ, List, Bool, nat_lt, string_bytes, unwrap_or}
 use Rattle.std.specs.declared.alloc.Global.{Global}
 use Rattle.std.specs.declared.string.String.{String}

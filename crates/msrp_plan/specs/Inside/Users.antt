@@ -1,4 +1,4 @@
--- On which cores a resource is used, as one pass over the units of all tasks notes it.
+-- On which cores a resource is used, as one pass over the units of all tasks finds it.
 use Rattle.std.specs.Prelude.{ℕ, List, Bool, true, false, ◌&&◌, ◌==◌, ◌≡◌, ◌<◌, slice_index_or}
 use Rattle.std.specs.List.{list_any}
 use Rattle.msrp_plan.specs.Units.{is_lock_of}
@@ -11,7 +11,7 @@ use Rattle.msrp_plan.specs.declared.users.Users.TheVariants.{Nobody, OneCore, Co
 abbrev pub is_user_on : ℕ → ℕ → Task → Bool
 is_user_on g c task = list_any (is_lock_of g) task.units.items && (task.core.0 == c)
 
--- one of the tasks is, and does
+-- one of the tasks is on the core and uses the resource
 abbrev pub is_used_on : List Task → ℕ → ℕ → Bool
 is_used_on tasks g c = list_any (is_user_on g c) tasks
 
@@ -21,7 +21,7 @@ AreOn on Nobody = (c : ℕ) → on c ≡ false
 AreOn on (OneCore only) = (c : ℕ) → on c ≡ (only.0 == c)
 AreOn on Cores = (c : ℕ) × (d : ℕ) × (on c ≡ true) × (on d ≡ true) × ((c == d) ≡ false)
 
--- the users of each resource are on the cores that are told of it
+-- the users of each resource are on its cores
 abbrev pub EachIsOn : (ℕ → ℕ → Bool) → List Users → Type 0
 EachIsOn on users = (g : ℕ) → g < most_resources → AreOn (on g) (slice_index_or users g Nobody)
 

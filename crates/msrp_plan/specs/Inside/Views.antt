@@ -1,4 +1,4 @@
--- What a clause sees of a plan and of a draft as they are stored.
+-- What a clause sees of a stored plan and of a stored draft.
 use Rattle.std.specs.Prelude.{ℕ, List, Some, map, length, string_bytes, ◌≡◌, ◌<◌, ◌+◌}
 use Rattle.msrp_plan.specs.Plan.{PlanModel, task_at}
 use Rattle.msrp_plan.specs.Units.{held_after}
@@ -29,7 +29,7 @@ draft_view b = parts_view b.parts
 abbrev pub numbers : List ResId → List ℕ
 numbers rs = map (λ r. r.0) rs
 
--- a draft, of which each task but the newest is whole, with the resources that the newest holds, the innermost first
+-- a draft, whose tasks but the newest are whole, and what the newest holds, the innermost first
 pub record IsGrowing (plan : PlanModel) (held : List ℕ) : Type 0 where
   pub draft : IsDraft plan
   pub whole : (t : ℕ) → t + 1 < length plan.tasks → IsWhole (task_at plan t)

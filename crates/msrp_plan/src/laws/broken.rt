@@ -1,4 +1,4 @@
-//! Rows that break a law, so that no law holds of whatever rows.
+//! Rows that violate a law each, so that no law holds for all rows.
 ghost use Rattle.std.specs.Prelude.{[], take, false};
 ghost use Rattle.msrp_plan.specs.Laws.{BoundedOvertaking, BoundedSpinning, ShortQueues};
 ghost use Rattle.msrp_plan.specs.Blocking.{BlockedByBegunSections, BlockedByOneSection, BoundedBlocking, BoundedSections, IsBegun};
@@ -17,8 +17,8 @@ ghost use Rattle.msrp_plan.specs.Examples.PreemptsASection as preempts_a_section
 ghost use Rattle.msrp_plan.specs.Examples.TwoHeads as two_heads;
 ghost use Rattle.msrp_plan.specs.declared.units.Call.TheVariants.{Ask, Poll, Leave};
 
-/// Rows that break one bound each: an overtaking too many, a queue too long, a spin too many, a row
-/// too many in a section, and while a job is blocked.
+/// Rows that exceed a bound each: an overtaking, queued job, spin, section or blocking row too
+/// many.
 pub fn broken_bounds()
     ensures overtaking { ¬ BoundedOvertaking handover_a_tick_later.plan broken_laws.overtaken_twice }
     ensures queues { ¬ ShortQueues handover_a_tick_later.plan broken_laws.third_in_the_queue }
@@ -27,8 +27,8 @@ pub fn broken_bounds()
     ensures blocking { ¬ BoundedBlocking blocked_head.plan broken_laws.long_blocking }
 {}
 
-/// Rows that break the laws of scheduling: a job that is blocked outside of a section, one that runs before
-/// its release, a core that idles while it has work, and one that works where nothing is left to do.
+/// Rows that violate the laws of scheduling: a job blocked outside of a section, one that runs
+/// before its release, a core that idles despite work, and one that works with nothing left to do.
 pub fn broken_schedules()
     ensures begun { ¬ BlockedByBegunSections two_heads.plan two_heads.by_declaration }
     ensures one_section { ¬ BlockedByOneSection two_heads.plan two_heads.by_declaration }
@@ -37,9 +37,9 @@ pub fn broken_schedules()
     ensures works { ¬ WorkConservation jobs_of_one_task.plan (take 3 jobs_of_one_task.too_early) }
 {}
 
-/// Rows that break earliest deadline first, each by its last row: a job starts before an earlier one that is
-/// ready, before an earlier one that is started, and below the ceiling; a job goes on where an earlier one is
-/// started, and where the first of those that are ready is above the ceiling.
+/// Rows that violate earliest deadline first, each by its last row: a job starts before an earlier
+/// ready one, before an earlier started one, or below the ceiling; a job goes on although an
+/// earlier one is started, or although the first ready one is above the ceiling.
 pub fn broken_deadlines()
     ensures first { ¬ EarliestDeadlineFirst two_heads.plan (take 1 two_heads.by_declaration) }
     ensures preempts { ¬ EarliestDeadlineFirst equal_deadlines.plan (take 3 equal_deadlines.preempted) }
@@ -48,17 +48,17 @@ pub fn broken_deadlines()
     ensures blocked { ¬ EarliestDeadlineFirst preempts_a_section.plan (take 2 preempts_a_section.without_preemption) }
 {}
 
-/// A section whose first row comes no earlier than a tick, though another row does: a row of another job,
-/// one in which the job is queued already, and one before its lock.
+/// A section whose first row isn't after a tick, though another row is: a row of another job, one
+/// in which the job is already queued, and one before its lock.
 pub fn broken_beginnings()
     ensures job { ¬ IsBegun blocked_head.plan broken_laws.after_another_job (job 0 0) 1 }
     ensures outside { ¬ IsBegun handover_within_a_tick.plan broken_laws.queued_later (job 0 0) 3 }
     ensures unit { ¬ IsBegun global_inside_local.plan broken_laws.worked_before (job 0 0) 1 }
 {}
 
-/// Where queue and lock don't agree on a row and a call that it doesn't make: the lock answers a request with
-/// nobody ahead, and the row is queued; the row takes a free resource, and the lock doesn't answer the poll;
-/// the holder works on, and the lock is released.
+/// Queue and lock disagree on a row and a call that doesn't make it: the lock answers a request
+/// with nobody ahead, and the row is queued; the row takes a free resource, and the lock doesn't
+/// answer the poll; the holder works on, and the lock is released.
 pub fn broken_locks()
     ensures replies { ¬ Agree handover_within_a_tick.plan [] (queue 0 0 (job 0 0) 0) 0 (Ask 0) }
     ensures answers { ¬ Agree handover_within_a_tick.plan [] (taken 0 0 (job 0 0) 0) 0 (Poll false) }

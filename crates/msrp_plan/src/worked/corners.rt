@@ -1,4 +1,4 @@
-//! Worked examples of corners in which a definition is easily taken wrongly.
+//! Worked examples of the cases in which a definition is easily misread.
 ghost use Rattle.std.specs.Prelude.{◌≡◌, true, false, [], ◌∷◌, ◌++◌, take};
 ghost use Rattle.msrp_plan.specs.Calls.{claim_with};
 ghost use Rattle.msrp_plan.specs.Codes.{code_of};
@@ -28,14 +28,14 @@ ghost use Rattle.msrp_plan.specs.declared.faults.Rule.TheVariants.{A3, A4, A5};
 ghost use Rattle.msrp_plan.specs.declared.units.Call.TheVariants.{Ask, Leave, Poll};
 ghost use Rattle.msrp_plan.specs.declared.units.Phase.TheVariants.{Free, Holding, Queued};
 
-/// Each job of a task waits for its own release, and the core idles between two of them.
+/// Each job of a task waits for its own release; the core idles between two of them.
 pub fn jobs_of_one_task()
     ensures run { IsRun jobs_of_one_task.plan jobs_of_one_task.rows }
     ensures too_early { verdict jobs_of_one_task.plan jobs_of_one_task.too_early ≡ fault 3 A3 }
     ensures never_started { verdict jobs_of_one_task.plan jobs_of_one_task.never_started ≡ fault 10 A3 }
 {}
 
-/// Of two jobs released at once the one with the earlier deadline starts, whichever is declared first.
+/// Of two jobs released at once the earlier deadline starts, in either order of declaration.
 pub fn two_heads()
     ensures run { IsRun two_heads.plan two_heads.rows }
     ensures by_declaration { verdict two_heads.plan two_heads.by_declaration ≡ fault 1 A3 }
@@ -49,35 +49,34 @@ pub fn levels_over_the_plan()
     ensures ceiling { local_ceiling levels_over_the_plan.plan 0 ≡ 3 }
 {}
 
-/// Two global resources in one run: a request names the resource of the job's unit, and its reply is that of
-/// the resource's own queue.
+/// Two global resources in one run: a request names the resource of the job's unit, and the reply
+/// comes from that resource's own queue.
 pub fn two_resources()
     ensures run { IsRun two_resources.plan two_resources.rows }
     ensures other_resource { verdict two_resources.plan two_resources.other_resource ≡ fault 6 A4 }
     ensures queued_for_another { verdict two_resources.plan two_resources.queued_for_another ≡ fault 2 A5 }
 {}
 
-/// A reply that the job may not ask for breaks the rule of actions, whatever the queue replies.
+/// A reply that the job can't ask for violates the rule of actions, whatever the queue replies.
 pub fn wrong_actions()
     ensures taken_while_queued { verdict handover_within_a_tick.plan wrong_actions.taken_while_queued ≡ fault 4 A4 }
     ensures spun_unasked { verdict handover_within_a_tick.plan wrong_actions.spun_unasked ≡ fault 1 A4 }
 {}
 
-/// Four of five cores wait in one queue, and each is served in its order.
+/// Four of five cores wait in one queue and are served in its order.
 pub fn five_in_a_queue()
     ensures run { IsRun five_in_a_queue.plan five_in_a_queue.rows }
     ensures last_first { verdict five_in_a_queue.plan five_in_a_queue.last_first ≡ fault 10 A5 }
 {}
 
-/// The bound on spinning counts the longest section of each other core that uses the resource, and no core
-/// that doesn't.
+/// The bound on spinning counts the longest section of each other core that uses the resource only.
 pub fn uneven_sections()
     ensures of_core_1 { spin_bound uneven_sections.plan 0 1 ≡ 4 }
     ensures of_core_0 { spin_bound uneven_sections.plan 0 0 ≡ 3 }
     ensures of_core_2 { spin_bound uneven_sections.plan 0 2 ≡ 7 }
 {}
 
-/// Calls of a lock with three in its queue, and calls that it doesn't take.
+/// Calls of a lock with three in its queue, and calls that it refuses.
 pub fn lock_calls()
     ensures three_waiting { Legal lock_calls.three_waiting }
     ensures left_ungranted { ¬ Legal lock_calls.left_ungranted }
@@ -87,7 +86,7 @@ pub fn lock_calls()
     ensures polled_unasked { ¬ Legal lock_calls.polled_unasked }
 {}
 
-/// The order of rising cores, what a core's rows leave it in, and what each of its calls leaves it in.
+/// The rising order of cores, and a core's phase after its rows and after each of its calls.
 pub fn orders_and_phases()
     ensures rising { ascending 2 2 ≡ 0 ∷ 1 ∷ 0 ∷ 1 ∷ [] }
     ensures holding { phase_after (log_of 0 (take 4 handover_within_a_tick.rows)) ≡ Holding (record { 0 = 0 }) }
@@ -100,7 +99,7 @@ pub fn orders_and_phases()
     ensures leaves { claim_with (Holding (record { 0 = 0 })) (record { 0 = 0 }) Leave ≡ Free }
 {}
 
-/// The limits of a source of bytes, and the codes of the two refusals that no text brings about.
+/// The limits of a source of bytes, and the codes of the two refusals that no text causes.
 pub fn source_limits()
     ensures bytes { most_bytes ≡ 16777216 }
     ensures calls { most_calls ≡ 33554432 }
@@ -108,7 +107,7 @@ pub fn source_limits()
     ensures memory { code_of Memory ≡ 16 }
 {}
 
-/// No plan is one past a limit, and no start is longer than a run.
+/// No plan exceeds a limit, and no start is longer than a run.
 pub fn past_limits()
     ensures cores { ¬ IsPlan nine_cores }
     ensures held { ¬ IsPlan nine_held }

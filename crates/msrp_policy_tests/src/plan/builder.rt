@@ -1,4 +1,4 @@
-//! Calls to a builder: what was told is read back from the plan, and a builder that refused goes on.
+//! Calls of a builder: the plan has what was declared, and a builder that refused a call goes on.
 
 use msrp_plan::{
     CoreId, JobId, JobKey, Op, Plan, PlanBuilder, PlanFault, ResId, Step, TaskId, Times,
@@ -6,8 +6,8 @@ use msrp_plan::{
 use std::alloc::Global;
 use std::test::Fail;
 
-// The calls as they are, so that a test relies on what it sees and not on their contracts. Who owns a builder or a plan does little
-// beside: each way out of a body drops it, and is proved to.
+// The calls without their contracts: a test relies on what it sees. Functions that own a builder or
+// a plan are short, since each of their exits drops it and must be proved.
 
 fn resource(builder: &mut PlanBuilder, name: &str) -> Result<ResId, PlanFault> {
     builder.resource(name)
@@ -23,7 +23,7 @@ fn task(
     builder.task(name, CoreId(core), period, deadline, offset)
 }
 
-// Tells the steps to a builder, up to the first that is refused.
+// Adds the steps to a builder, up to the first refused one.
 fn told(builder: &mut PlanBuilder, steps: &[Step]) -> Result<(), PlanFault> {
     for step in steps {
         if builder.tasks() > 0 {
@@ -33,7 +33,7 @@ fn told(builder: &mut PlanBuilder, steps: &[Step]) -> Result<(), PlanFault> {
     Ok(())
 }
 
-// Tells the resources g and h and the task a, which has these units.
+// Declares the resources g and h and the task a, with these units.
 fn begun(builder: &mut PlanBuilder, steps: &[Step]) -> Result<(), PlanFault> {
     resource(builder, "g")?;
     resource(builder, "h")?;
@@ -41,7 +41,6 @@ fn begun(builder: &mut PlanBuilder, steps: &[Step]) -> Result<(), PlanFault> {
     told(builder, steps)
 }
 
-// Tells another task.
 fn another(builder: &mut PlanBuilder) -> Result<(), PlanFault> {
     task(builder, "b", 1, [7, 3, 2])?;
     told(builder, &[Step::Run(1)])
@@ -49,7 +48,7 @@ fn another(builder: &mut PlanBuilder) -> Result<(), PlanFault> {
 
 const UNITS: [Step; 3] = [Step::Lock(ResId(1)), Step::Run(2), Step::Unlock(ResId(1))];
 
-// A builder of two cores and ten ticks, with the resources g and h and the task a, which has these units.
+// A builder of two cores and ten ticks, with the resources g and h and the task a with these units.
 fn started(alloc: Global, steps: &[Step]) -> Result<PlanBuilder, PlanFault> {
     let mut builder = PlanBuilder::new(alloc, 2, 10)?;
     begun(&mut builder, steps)?;
@@ -71,7 +70,7 @@ fn finished(builder: PlanBuilder) -> Result<Plan, Fail> {
     }
 }
 
-// The builder, where its end is refused, with the fault.
+// The builder and the fault, if its end is refused.
 fn unfinished(builder: PlanBuilder) -> Result<(PlanBuilder, PlanFault), Fail> {
     match builder.finish() {
         Ok(_) => Err(Fail::from("the plan is accepted")),
@@ -79,7 +78,7 @@ fn unfinished(builder: PlanBuilder) -> Result<(PlanBuilder, PlanFault), Fail> {
     }
 }
 
-// What names name in a builder, how many tasks it has, and the number of one more.
+// The resources of two names, the number of tasks, and the number of one more.
 type Read = ([Option<ResId>; 2], u32, Option<u32>);
 
 fn read(builder: &mut PlanBuilder) -> Read {
@@ -97,7 +96,7 @@ fn a_builder_is_read(rt: HostRuntime) -> Result<(), Fail> {
     Ok(())
 }
 
-// Of a plan: its cores and ticks, the second task's core and deadline, and how many jobs each task has.
+// A plan's cores and ticks, the second task's core and deadline, and each task's number of jobs.
 fn numbers_of(plan: &Plan) -> Option<[u32; 6]> {
     if plan.tasks() != 2 {
         return None;
@@ -119,7 +118,7 @@ fn times_of(plan: &Plan) -> Option<Times> {
     Some(plan.times(TaskId(last)))
 }
 
-// Whether the names of a plan of two resources are these, and name what they are to.
+// Whether a plan's two resources have these names and numbers.
 fn is_named(plan: &Plan) -> bool {
     if plan.tasks() == 0 || plan.resources() != 2 {
         return false;
@@ -131,7 +130,7 @@ fn is_named(plan: &Plan) -> bool {
         && plan.res_of("h") == Some(ResId(1))
 }
 
-// Units of the first task, if it has four: the first, the third and the last.
+// The first, third and last unit of the first task, if it has four.
 fn units_of(plan: &Plan) -> Option<[Op; 3]> {
     let task = TaskId(0);
     if plan.tasks() == 0 || plan.units(task) != 4 {
@@ -140,7 +139,7 @@ fn units_of(plan: &Plan) -> Option<[Op; 3]> {
     Some([plan.unit(task, 0), plan.unit(task, 2), plan.unit(task, 3)])
 }
 
-// When the third job of the first task is released, and its key.
+// The third release of the first task, and that job's key.
 fn job_of(plan: &Plan) -> Option<(u64, JobKey)> {
     let job = JobId {
         task: TaskId(0),
@@ -199,7 +198,7 @@ fn a_plan_is_read_back(rt: HostRuntime) -> Result<(), Fail> {
     Ok(())
 }
 
-// Tells a listed task of these ticks.
+// Declares a listed task with these ticks.
 fn listed(builder: &mut PlanBuilder, ticks: &[u32]) -> Result<(), PlanFault> {
     builder.listed("a", CoreId(0), 4)?;
     for tick in ticks {
@@ -210,7 +209,7 @@ fn listed(builder: &mut PlanBuilder, ticks: &[u32]) -> Result<(), PlanFault> {
     Ok(())
 }
 
-// Tells a listed task of one unit.
+// Declares a listed task of one unit.
 fn listing(builder: &mut PlanBuilder) -> Result<(), PlanFault> {
     listed(builder, &[1, 4, 1_000_000])?;
     told(builder, &[Step::Run(1)])
@@ -275,21 +274,21 @@ fn strange_numbers_are_refused(rt: HostRuntime) {
     }
 }
 
-// What a builder that holds g refuses: its name once more, and an unlock of h.
+// A builder's refusals while it holds g: g once more, and an unlock of h.
 fn refused(builder: &mut PlanBuilder) -> [Option<PlanFault>; 2] {
     let taken = resource(builder, "g").err();
     let nesting = told(builder, &[Step::Unlock(ResId(1))]).err();
     [taken, nesting]
 }
 
-// Tells one more resource, and the unlock of g that is missing.
+// Adds one more resource, and the missing unlock of g.
 fn mended(builder: &mut PlanBuilder) -> Result<ResId, PlanFault> {
     let added = resource(builder, "i")?;
     told(builder, &[Step::Unlock(ResId(0))])?;
     Ok(added)
 }
 
-// How many resources a plan has, and how many units its only task has.
+// The number of a plan's resources, and of its only task's units.
 fn sizes(plan: &Plan) -> Option<[u32; 2]> {
     if plan.tasks() != 1 {
         return None;
@@ -297,14 +296,14 @@ fn sizes(plan: &Plan) -> Option<[u32; 2]> {
     Some([plan.resources(), plan.units(TaskId(0))])
 }
 
-// Of a builder that was mended: the resource that was added, and the sizes of the plan.
+// The added resource, and the sizes of the finished plan.
 fn gone_to_the_end(mut builder: PlanBuilder) -> Result<(ResId, Option<[u32; 2]>), Fail> {
     let added = mended(&mut builder)?;
     let plan = finished(builder)?;
     Ok((added, sizes(&plan)))
 }
 
-// What is refused to a builder that holds g, its end too, and what it then makes.
+// The refusals of a builder that holds g, its end's too, and what it then makes.
 type GoneOn = ([Option<PlanFault>; 3], ResId, Option<[u32; 2]>);
 
 fn gone_on(alloc: Global) -> Result<GoneOn, Fail> {

@@ -1,15 +1,15 @@
-//! Sources and sinks over readers and writers that fail, that end, and that go on past the limits.
+//! Sources and sinks over readers and writers that fail, that end, and that exceed the limits.
 
 use msrp_plan::bytes::{Sink, Source};
 use std::alloc::Global;
 use std::io;
 use std::io::{ErrorKind, Read, Write};
 
-// The limit of a source, as the formats say it.
+// The limit of a source's bytes, as docs/FORMATS.md has it.
 const MOST_BYTES: usize = 16_777_216;
 
-// Has so many bytes, gives at most so many a call, and fails at one call. It counts its calls and keeps the
-// greatest room that it was lent.
+// A reader with a number of bytes, a limit of each call, and one call that fails. It counts its
+// calls and stores the greatest room that it was lent.
 #[derive(Drop)]
 struct Halting {
     left: usize,
@@ -33,7 +33,7 @@ impl Read for Halting {
     }
 }
 
-// A reader of so many bytes, which gives at most so many a call.
+// A reader of this many bytes, with a limit of each call.
 fn reader_of(left: usize, most: usize) -> Halting {
     Halting {
         left,
@@ -44,7 +44,7 @@ fn reader_of(left: usize, most: usize) -> Halting {
     }
 }
 
-// Reads to the end, at most so often, and answers the bytes read, or none where a read failed.
+// Reads to the end in at most this many calls: the number of bytes, or none after a failed read.
 fn read_all<R: Read>(source: &mut Source<R>, buf: &mut [u8], tries: u32) -> Option<usize> {
     let mut total = 0usize;
     for _ in 0..tries {
@@ -57,7 +57,7 @@ fn read_all<R: Read>(source: &mut Source<R>, buf: &mut [u8], tries: u32) -> Opti
     None
 }
 
-// Takes at most so many bytes a call. At one call it takes none, and fails or not; then it goes on.
+// A writer with a limit of each call. In one call it takes nothing, and fails or not.
 #[derive(Drop)]
 struct Faltering {
     got: Vec<u8>,
@@ -181,7 +181,7 @@ fn writes_whole_texts(rt: HostRuntime) {
     }
 }
 
-// Whether a text is written up to the call that stops, and no call is made after it.
+// Whether a text is written up to the call that stops, and no later call is made.
 fn stops_for_good(alloc: Global, text: &[u8], taken: usize, fails: bool) -> bool {
     let mut writer = writer_of(alloc, 1, taken.saturating_add(1), fails);
     let mut sink = Sink::new(&mut writer);
@@ -197,7 +197,7 @@ fn stops_for_good(alloc: Global, text: &[u8], taken: usize, fails: bool) -> bool
         && written.len() == taken
 }
 
-// A write that failed isn't tried again, though the writer would take it.
+// A failed write isn't tried again, though the writer would take it.
 #[test]
 fn each_write_fails_in_turn(rt: HostRuntime) {
     for taken in 0..9usize {

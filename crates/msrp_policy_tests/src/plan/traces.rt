@@ -1,4 +1,4 @@
-//! Tests of traces.
+//! Traces whose queue rows carry their aheads, or don't.
 
 use msrp_plan::{CoreId, JobId, Kind, ResId, Row, TaskId, Trace};
 

@@ -22,7 +22,7 @@ k = job 0
 abbrev hi : ℕ → JobId
 hi = job 1
 
--- the last job of hi is cut off, and its deadline is where the ticks end
+-- the last job of hi is cut off, and its deadline is the end of the ticks
 abbrev pub rows : List Row
 rows =
     lock 0 0 (k 0) 0

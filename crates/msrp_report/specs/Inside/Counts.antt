@@ -1,4 +1,4 @@
--- What the rows tell of one job, row by row.
+-- One job's counts, row by row.
 use Rattle.msrp_plan.specs.Common.{ℕ, List, Option, Some, None, not, fold, max, unwrap_or, ⊤, is_row_of, is_waiting, is_spin}
 use Rattle.msrp_plan.specs.declared.ids.JobId.{JobId}
 use Rattle.msrp_plan.specs.declared.rows.Kind.{Kind}
@@ -14,12 +14,12 @@ wait_with Spin (Some n) = Some (n + 1)
 wait_with Grant wait = None
 wait_with _ wait = wait
 
--- one spin more can be counted
+-- one more spin can be counted
 abbrev pub HasRoom : Option ℕ → Type 0
 HasRoom None = ⊤
 HasRoom (Some n) = n + 1 < 2 ^ 32
 
--- one row more can be counted
+-- one more row can be counted
 pub record CanCount (c : JobCount) : Type 0 where
   pub rows : c.rows + 1 < 2 ^ 32
   pub done : c.done + 1 < 2 ^ 32
@@ -31,11 +31,11 @@ pub record CanCount (c : JobCount) : Type 0 where
 abbrev pub uncounted : JobCount
 uncounted = record { rows = 0; done = 0; last_tick = 0; spins = 0; wait = None; longest_wait = 0 }
 
--- one spin more
+-- with one more spin
 abbrev pub spun : JobCount → JobCount
 spun c = record c { spins = c.spins + 1; wait = wait_with Spin c.wait; longest_wait = max c.longest_wait (unwrap_or (wait_with Spin c.wait) 0) }
 
--- one row of the job more, of that tick and kind
+-- with one more row of the job, of that tick and kind
 abbrev pub counted_as : ℕ → Kind → JobCount → JobCount
 counted_as tick kind c = record {
   rows = c.rows + 1;
@@ -49,6 +49,6 @@ counted_as tick kind c = record {
 abbrev pub counted : Row → JobCount → JobCount
 counted r c = counted_as r.tick r.kind c
 
--- what the rows tell of the job
+-- the job's counts over the rows
 unfoldable pub count_of : List Row → JobId → JobCount
 count_of rows j = fold (λ c r. counted r c) uncounted (filter (is_row_of j) rows)

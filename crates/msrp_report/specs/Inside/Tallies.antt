@@ -1,4 +1,4 @@
--- What is kept of each job while the rows come, and what it says of the rows so far.
+-- The counts of each job while rows arrive, and what they say of the rows so far.
 use Rattle.std.specs.Prelude.{◌∷◌, ◌++◌, ◌&&◌, ◌==◌, ◌≡◌, ◌<◌, ◌≤◌, ◌+◌, ◌/◌, if◌then◌else◌}
 use Rattle.msrp_plan.specs.Common.{ℕ, List, [], Bool, true, false, not, nat_le, nat_lt, Option, Some, None, IsSome, map, count_by, length, slice_get, vec_capacity, All, AllByRecursion, Contains, list_any, range_with_len, IsNonDecreasingBy, IsPermutation, PlanModel, task_at, release, release_tick, is_before, jobs, job_at, jobs_of, jobs_on, same_job, is_started, is_finished, blocked, first_later, IsRunStart, IsPlan}
 use Rattle.msrp_plan.specs.declared.ids.JobId.{JobId}
@@ -16,8 +16,8 @@ use Rattle.msrp_report.specs.declared.tallies.TaskTally.{TaskTally}
 use Rattle.msrp_report.specs.declared.tallies.Tallies.{Tallies}
 
 -- ---- blocking
--- the rows of the job's core before its release, and those since; of the later jobs of its core that are started and unfinished
--- at the release this one, if there is one, comes first
+-- some rows of the job's core before its release, and those since; this job, if any, is the first
+-- of the later jobs of its core that are started and unfinished at the release
 pub record IsSinceRelease (plan : PlanModel) (rows : List Row) (j : JobId) (o : Option JobId) : Type 0 where
   pub before : List Row
   pub since : List Row
@@ -26,13 +26,13 @@ pub record IsSinceRelease (plan : PlanModel) (rows : List Row) (j : JobId) (o : 
   pub late : AllByRecursion (ComesAfter plan j) since
   pub first : first_later plan before j ≡ o
 
--- so many rows have blocked the job, and no later one does: it is started, or nobody blocks it, or it isn't released
+-- n rows have blocked the job, and no later one will: it is started, unblocked or unreleased
 pub record IsOver (plan : PlanModel) (rows : List Row) (released : Bool) (j : JobId) (n : ℕ) : Type 0 where
   pub count : blocked plan rows j ≡ n
   pub ahead : released ≡ false → (n ≡ 0) × (is_started rows j ≡ false)
   pub nobody : released ≡ true → is_started rows j ≡ false → IsSinceRelease plan rows j None
 
--- the job is released and not started, and rows of job k block it, which had so many rows at the release
+-- the job is released and not started, and rows of job k block it, which had n rows at the release
 pub record WaitsFor (plan : PlanModel) (rows : List Row) (released : Bool) (j k : JobId) (n : ℕ) : Type 0 where
   pub come : released ≡ true
   pub unstarted : is_started rows j ≡ false
@@ -52,11 +52,11 @@ pub record IsJobTally (plan : PlanModel) (rows : List Row) (released : Bool) (j 
 abbrev pub is_active : PlanModel → List Row → JobId → Bool
 is_active plan rows j = is_started rows j && not (is_finished plan rows j)
 
--- the tick of the k-th release of a task, or the plan's end where it has no such job
+-- the tick of the k-th release of a task, or the plan's end if it has no such job
 abbrev pub release_or_end : PlanModel → ℕ → ℕ → ℕ
 release_or_end plan t k = if nat_lt k (length (jobs_of plan t)) then release plan (job_at t k) else plan.ticks
 
--- what is kept of task t, where so many ticks have begun for it: those of its jobs are released that come before them
+-- the counts of task t after these begun ticks: exactly the jobs with a release in them are there
 pub record IsTaskTally (plan : PlanModel) (rows : List Row) (begun t : ℕ) (x : TaskTally) : Type 0 where
   pub size : length x.jobs.items ≡ length (jobs_of plan t)
   pub units : x.units ≡ length (task_at plan t).units
@@ -65,7 +65,7 @@ pub record IsTaskTally (plan : PlanModel) (rows : List Row) (begun t : ℕ) (x :
   pub later : begun ≤ release_or_end plan t x.released
   pub each : (k : ℕ) (s : JobTally) → slice_get x.jobs.items k ≡ Some s → IsJobTally plan rows (nat_lt k x.released) (job_at t k) s
 
--- what is kept of all tasks, where ticks have begun for each task on its own
+-- the counts of all tasks, each with its own number of begun ticks
 pub record AreTallies (plan : PlanModel) (rows : List Row) (begun : ℕ → ℕ) (tasks : List TaskTally) : Type 0 where
   pub start : IsRunStart plan rows
   pub size : length tasks ≡ length plan.tasks
@@ -76,7 +76,7 @@ pub record AreTallies (plan : PlanModel) (rows : List Row) (begun : ℕ → ℕ)
 abbrev pub IsNextRelease : PlanModel → List TaskTally → NextRelease → Type 0
 IsNextRelease plan tasks r = (x : TaskTally) → slice_get tasks r.task.0 ≡ Some x → r.tick ≡ release_or_end plan r.task.0 x.released
 
--- they are the next release of each task once, the earliest first
+-- the next release of each task, once, the earliest first
 pub record AreReleases (plan : PlanModel) (tasks : List TaskTally) (releases : List NextRelease) : Type 0 where
   pub own : All (IsNextRelease plan tasks) releases
   pub once : IsPermutation (range_with_len 0 (length plan.tasks)) (map (λ r. r.task.0) releases)
@@ -86,26 +86,26 @@ pub record AreReleases (plan : PlanModel) (tasks : List TaskTally) (releases : L
 abbrev pub same_task : JobId → JobId → Bool
 same_task i j = i.task.0 == j.task.0
 
--- of core c each such job is kept once, and none else; no two are of one task, so there is room for one more
+-- each such job of core c is there once, and no other; no two are of one task, so one more has room
 pub record AreActiveOf (plan : PlanModel) (rows : List Row) (c : ℕ) (x : CoreJobs) : Type 0 where
   pub known : AllByRecursion (Contains (jobs_on plan c)) x.jobs.items
   pub active : (j : JobId) → Contains (jobs_on plan c) j → list_any (same_job j) x.jobs.items ≡ is_active plan rows j
   pub apart : IsDistinct same_task x.jobs.items
   pub room : length plan.tasks ≤ vec_capacity x.jobs
 
--- of all cores
+-- each core's started, unfinished jobs are there so
 pub record AreActive (plan : PlanModel) (rows : List Row) (cores : List CoreJobs) : Type 0 where
   pub size : length cores ≡ plan.cores
   pub each : (c : ℕ) (x : CoreJobs) → slice_get cores c ≡ Some x → AreActiveOf plan rows c x
 
 -- ---- ticks
--- so many ticks have begun with these rows: the last of them perhaps not for all cores
+-- this many ticks have begun with these rows, the last perhaps not for all cores
 pub record HaveBegun (plan : PlanModel) (rows : List Row) (begun : ℕ) : Type 0 where
   pub early : AllByRecursion (λ r. r.tick < begun) rows
   pub least : length rows / plan.cores ≤ begun
   pub most : begun ≤ length rows / plan.cores + 1
 
--- what is kept is what these rows tell
+-- the counts are those of these rows
 pub record HasTallied (plan : PlanModel) (rows : List Row) (t : Tallies) : Type 0 where
   pub begun : HaveBegun plan rows t.begun
   pub tallies : AreTallies plan rows (λ _. t.begun) t.tasks.items
@@ -118,13 +118,13 @@ pub record IsKnown (plan : PlanModel) (j : JobId) : Type 0 where
   pub task : j.task.0 < length plan.tasks
   pub released : IsSome (release_tick plan j)
 
--- the job's tally stands there
+-- the job's tally is there
 pub record IsTallyOf (tasks : List TaskTally) (j : JobId) (s : JobTally) : Type 0 where
   pub task : TaskTally
   pub of_task : slice_get tasks j.task.0 ≡ Some task
   pub of_job : slice_get task.jobs.items j.k ≡ Some s
 
--- they are the tallies of some rows of a plan that has the job
+-- the tallies of some rows of a plan that has the job
 pub record ToldOf (tasks : List TaskTally) (j : JobId) : Type 0 where
   pub plan : PlanModel
   pub rows : List Row
@@ -133,14 +133,14 @@ pub record ToldOf (tasks : List TaskTally) (j : JobId) : Type 0 where
   pub tallies : AreTallies plan rows begun tasks
   pub known : Contains (jobs plan) j
 
--- they are the tallies of some rows of the plan
+-- the tallies of some rows of the plan
 pub record ToldBy (plan : PlanModel) (t : Tallies) : Type 0 where
   pub rows : List Row
   pub begun : ℕ → ℕ
   pub tallies : AreTallies plan rows begun t.tasks.items
   pub active : AreActive plan rows t.active.items
 
--- how a job is blocked at its release by this job, if there is one
+-- how a job is blocked from its release by this job, if there is one
 abbrev pub blocking_by : List Row → Option JobId → Blocking
 blocking_by rows None = Over 0
 blocking_by rows (Some j) = By j (count_of rows j).rows
@@ -149,7 +149,7 @@ blocking_by rows (Some j) = By j (count_of rows j).rows
 abbrev pub is_later_active : PlanModel → List Row → JobId → JobId → Bool
 is_later_active plan rows j k = is_active plan rows k && is_before plan j k
 
--- the job isn't before this one, of which there is one
+-- the job isn't before this one, if there is one
 abbrev pub NotBefore : PlanModel → JobId → Option JobId → Type 0
 NotBefore plan i None = ⊥
 NotBefore plan i (Some f) = is_before plan i f ≡ false
@@ -160,7 +160,7 @@ pub record IsFirstOf (plan : PlanModel) (j : JobId) (others : List JobId) (o : O
   pub least : (i : JobId) → list_any (same_job i) others ≡ true → is_before plan j i ≡ true → NotBefore plan i o
 
 -- ---- the releases of a tick
--- all rows stand in ticks that have begun; for some tasks the next tick has begun too
+-- all rows are in begun ticks; for some tasks the next tick has begun too
 pub record HasReleased (plan : PlanModel) (rows : List Row) (t : Tallies) : Type 0 where
   pub early : AllByRecursion (λ r. r.tick < t.begun) rows
   pub begun : ℕ → ℕ
@@ -170,7 +170,7 @@ pub record HasReleased (plan : PlanModel) (rows : List Row) (t : Tallies) : Type
   pub releases : AreReleases plan t.tasks.items t.releases.items
   pub active : AreActive plan rows t.active.items
 
--- the first of the releases comes in the tick that begins, or came before it
+-- the first release is in the tick that begins, or before it
 abbrev pub is_due : ℕ → List NextRelease → Bool
 is_due begun [] = false
 is_due begun (r ∷ rs) = nat_le r.tick begun
@@ -179,12 +179,12 @@ is_due begun (r ∷ rs) = nat_le r.tick begun
 abbrev pub due_count : Tallies → ℕ
 due_count t = count_by (λ r. nat_le r.tick t.begun) t.releases.items
 
--- some rows are told so
+-- the tallies are those of some rows
 abbrev pub ReleasesNext : PlanModel → Tallies → Type 0
 ReleasesNext plan t = (rows : List Row) × HasReleased plan rows t
 
 -- ---- one row more
--- it goes on with the rows, in the tick that has begun last
+-- the row follows these rows, in the tick begun last
 pub record IsNextOf (plan : PlanModel) (rows : List Row) (r : Row) (begun : ℕ) : Type 0 where
   pub start : IsRunStart plan (rows ++ r ∷ [])
   pub tick : begun ≡ r.tick + 1
@@ -192,7 +192,7 @@ pub record IsNextOf (plan : PlanModel) (rows : List Row) (r : Row) (begun : ℕ)
 abbrev pub Counts : PlanModel → Row → Tallies → Type 0
 Counts plan r t = (rows : List Row) × AreTallies plan rows (λ _. t.begun) t.tasks.items × IsNextOf plan rows r t.begun × AreActive plan rows t.active.items
 
--- a row of this job, tick and kind does
+-- a row of this job, tick and kind follows
 pub record CountsAs (plan : PlanModel) (j : JobId) (at : ℕ) (k : Kind) (r : Row) (t : Tallies) : Type 0 where
   pub job : r.job ≡ Some j
   pub tick : r.tick ≡ at
@@ -202,10 +202,10 @@ pub record CountsAs (plan : PlanModel) (j : JobId) (at : ℕ) (k : Kind) (r : Ro
 abbrev pub GoesOn : PlanModel → Row → Tallies → Type 0
 GoesOn plan r t = (rows : List Row) × HasTallied plan rows t × IsRunStart plan (rows ++ r ∷ [])
 
--- a row of that tick does
+-- a row of that tick follows
 abbrev pub Reaches : PlanModel → ℕ → Tallies → Type 0
 Reaches plan at t = (r : Row) × GoesOn plan r t × (r.tick ≡ at)
 
--- all rows are told
+-- the tallies include all rows
 abbrev pub ToldAll : PlanModel → Tallies → Type 0
 ToldAll plan t = (rows : List Row) × HasTallied plan rows t

@@ -4,7 +4,7 @@ use Rattle.msrp_plan.specs.Common.{max}
 use Rattle.msrp_report.specs.declared.lines.Line.{Line}
 use Rattle.msrp_report.specs.declared.numbers.JobNumbers.{JobNumbers}
 
--- one job more
+-- with one more job
 abbrev pub line_with : JobNumbers → Line → Line
 line_with n l = record l {
   finished = l.finished + (if n.finished then 1 else 0);
@@ -16,7 +16,7 @@ line_with n l = record l {
   worst_blocked = max l.worst_blocked n.blocked;
 }
 
--- one job more can be counted
+-- one more job can be counted
 pub record HasSpace (n : JobNumbers) (l : Line) : Type 0 where
   pub finished : l.finished + 1 < 2 ^ 32
   pub late : l.late + 1 < 2 ^ 32

@@ -1,4 +1,4 @@
-//! The jobs of each core that are started and unfinished.
+//! The started, unfinished jobs of each core: they can block the jobs that are released next.
 
 ghost use Rattle.msrp_plan.specs.Common.{[], cond, not, List, IfOk, IfSome, Some, length, vec_capacity, AllByRecursion, first_later, comes_first, is_before, same_job, core_of};
 ghost use Rattle.std.specs.Prelude.{◌≡◌, ◌<◌, ◌++◌, ◌∷◌, ◌&&◌, filter};
@@ -8,7 +8,6 @@ ghost use Rattle.msrp_report.specs.Inside.Tallies.{AreActive, AreActiveOf, IsKno
 use msrp_plan::{JobId, Memory, Plan};
 use std::alloc::Global;
 
-// Whether a job comes before another, or there is no other.
 fn is_first(plan: &Plan, job: JobId, other: Option<JobId>) -> bool
     requires job { IsKnown plan.now job }
     requires other { IfSome other (IsKnown plan.now) }
@@ -20,7 +19,7 @@ fn is_first(plan: &Plan, job: JobId, other: Option<JobId>) -> bool
     }
 }
 
-// The first of two: a job that comes first so far, if there is one, and another, if that is later than the job.
+// The first of two later jobs: the first so far, if any, and another, if it is later than the job.
 fn first_with(plan: &Plan, job: JobId, other: JobId, first: Option<JobId>) -> Option<JobId>
     requires job { IsKnown plan.now job }
     requires other { IsKnown plan.now other }
@@ -35,14 +34,14 @@ fn first_with(plan: &Plan, job: JobId, other: JobId, first: Option<JobId>) -> Op
     }
 }
 
-/// The jobs of one core that are started and unfinished: at most one of each task.
+/// The started, unfinished jobs of one core: at most one of each task.
 #[derive(Drop)]
 pub(crate) struct CoreJobs {
     pub(crate) jobs: Vec<JobId>,
 }
 
 impl CoreJobs {
-    /// One more is started.
+    /// Adds a started job.
     #[inline(always)]
     pub(super) fn start(&mut self, job: JobId)
         requires { length self.old.jobs.items < vec_capacity self.old.jobs }
@@ -52,7 +51,7 @@ impl CoreJobs {
         self.jobs.push_reserved(job);
     }
 
-    /// One is finished.
+    /// Removes a finished job.
     pub(super) fn finish(&mut self, job: JobId)
         ensures jobs { self.new.jobs.items ≡ filter (λ other. not (same_job other job)) self.old.jobs.items }
         ensures room { vec_capacity self.new.jobs ≡ vec_capacity self.old.jobs }
@@ -60,7 +59,7 @@ impl CoreJobs {
         self.jobs.retain(|other| *other != job);
     }
 
-    /// The first of the later jobs of a job's core that are started and unfinished.
+    /// The first started, unfinished job of a job's core that is later than the job.
     pub(super) fn first_later(&self, plan: &Plan, job: JobId) -> Option<JobId>
         requires known { AllByRecursion (IsKnown plan.now) self.now.jobs.items }
         requires job { IsKnown plan.now job }
@@ -74,7 +73,7 @@ impl CoreJobs {
     }
 }
 
-/// No job is started, and there is room for one of each task on each core.
+/// No job is started; room for one of each task on each core.
 pub(super) fn none_active(alloc: Global, plan: &Plan) -> Result<Vec<CoreJobs>, Memory>
     ensures { IfOk result (λ active. AreActive plan.now [] active.items) }
 {

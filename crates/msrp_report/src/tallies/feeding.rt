@@ -1,4 +1,4 @@
-//! One row more.
+//! How the counts follow a row: its job's own count, and whom the row blocks.
 ghost use Rattle.std.specs.Prelude.{◌≡◌, ◌+◌, ◌++◌, ◌∷◌};
 ghost use Rattle.msrp_plan.specs.Common.{[], ℕ, List, Some, false, not, is_started, PlanModel, IsRunStart, IsPlan};
 ghost use Rattle.msrp_plan.specs.declared.rows.Row.{Row as TraceRow};
@@ -17,7 +17,7 @@ impl Tallies {
         self.count_of(job).rows == 0
     }
 
-    // Counts the first row of a job: from here on no row blocks it.
+    // Counts the first row of a job: no later row blocks it.
     fn count_first(&mut self, plan: &Plan, job: JobId, tick: u32, kind: Kind)
         requires plan { IsPlan plan.now }
         requires told { (row : TraceRow) × CountsAs plan.now job tick kind row self.old }
@@ -39,7 +39,7 @@ impl Tallies {
         self.active[core.0 as usize].start(job);
     }
 
-    // Counts a row of a job. Most are no first ones: what is kept of how their job is blocked stays as it is.
+    // Counts a row of a job. Unless it is the first, the job's blocking doesn't change.
     #[inline(always)]
     fn count(&mut self, plan: &Plan, job: JobId, row: Row)
         requires plan { IsPlan plan.now }
@@ -64,7 +64,7 @@ impl Tallies {
         self.active[core.0 as usize].finish(job);
     }
 
-    /// Begins that tick, if none of its rows has come.
+    /// Begins that tick, unless one of its rows was counted.
     #[inline(always)]
     pub(crate) fn reach(&mut self, plan: &Plan, tick: u32)
         requires plan { IsPlan plan.now }
@@ -78,7 +78,7 @@ impl Tallies {
         self.begin(plan);
     }
 
-    /// One row more of a legal run, in the tick that has begun last.
+    /// Counts a row of a legal run, in the tick begun last.
     #[inline(always)]
     pub(crate) fn feed(&mut self, plan: &Plan, row: Row)
         requires plan { IsPlan plan.now }

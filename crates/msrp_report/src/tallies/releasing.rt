@@ -1,4 +1,4 @@
-//! The releases of a tick, before its first row.
+//! The releases of a tick, before its first row: each finds its job's blocker.
 
 ghost use Rattle.std.specs.Prelude.{◌≡◌, ◌<◌, ◌+◌};
 ghost use Rattle.msrp_plan.specs.Common.{ℕ, List, true, length, slice_set, Contains, IsNonDecreasingBy, IsPermutation, first_later, jobs, jobs_of, IsPlan};
@@ -8,7 +8,7 @@ ghost use Rattle.msrp_report.specs.Inside.Tallies.{AreActive, AreReleases, AreTa
 use super::{Blocking, NextRelease, Tallies};
 use msrp_plan::{JobId, Plan};
 
-/// The tick of a job's release, or the plan's end where its task, which has so many jobs, has no such job.
+/// The tick of a job's release, or the plan's end if its task has no such job.
 pub(super) fn release_or_end(plan: &Plan, job: JobId, jobs: usize) -> u32
     requires plan { IsPlan plan.now }
     requires task { job.task.0 < length plan.now.tasks }
@@ -22,8 +22,8 @@ pub(super) fn release_or_end(plan: &Plan, job: JobId, jobs: usize) -> u32
     }
 }
 
-// Puts a release in place of the first, where it belongs in the order. Most periods are alike, so few releases come later: its place is looked
-// for from the back.
+// Moves the first release, renewed, to its place in the order. Most periods are alike, so the place
+// is near the back and is looked for from there.
 fn put_back(releases: &mut [NextRelease], next: NextRelease)
     requires some { 0 < length releases.old }
     requires rising { IsNonDecreasingBy (λ r. r.tick) releases.old }
@@ -39,7 +39,7 @@ fn put_back(releases: &mut [NextRelease], next: NextRelease)
 }
 
 impl Tallies {
-    // How a job is blocked that is released now.
+    // Who blocks a job that is released now.
     fn blocking_of(&self, plan: &Plan, job: JobId) -> Blocking
         requires plan { IsPlan plan.now }
         requires told { ToldBy plan.now self.now }
@@ -56,7 +56,7 @@ impl Tallies {
         }
     }
 
-    // Whether a job has to be released in the tick that begins.
+    // Whether a job must be released in the tick that begins.
     #[inline(always)]
     fn is_due(&self) -> bool
         ensures { result ≡ is_due self.now.begun self.now.releases.items }
@@ -67,8 +67,8 @@ impl Tallies {
         }
     }
 
-    // Releases the job whose release comes first, and puts the next release of its task in its place in the order. Apart from the code of the ticks
-    // in which nothing is released, which are most.
+    // Releases the first job, and puts its task's next release in order. Kept apart from the code
+    // for ticks without a release, the usual ones.
     #[inline(never)]
     fn release(&mut self, plan: &Plan)
         requires plan { IsPlan plan.now }
@@ -94,7 +94,7 @@ impl Tallies {
         put_back(&mut self.releases, NextRelease { tick, task });
     }
 
-    /// Begins the next tick. Where no job is released in it, no task is looked at.
+    /// Begins the next tick. Without a release it looks at no task.
     #[inline(always)]
     pub(super) fn begin(&mut self, plan: &Plan)
         requires plan { IsPlan plan.now }

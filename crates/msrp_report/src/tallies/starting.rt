@@ -1,4 +1,4 @@
-//! Before the first row.
+//! The counts before the first row.
 
 ghost use Rattle.std.specs.Prelude.{◌≡◌, ◌<◌, ◌≤◌};
 ghost use Rattle.msrp_plan.specs.Common.{[], List, IfOk, length, IsPlan};
@@ -51,7 +51,7 @@ fn first_releases(alloc: Global, plan: &Plan) -> Result<Vec<NextRelease>, Memory
 }
 
 impl Tallies {
-    /// No row yet. All memory that is ever needed is taken here.
+    /// No row yet, with all the memory that it will ever need.
     pub(crate) fn with_room(alloc: Global, plan: &Plan) -> Result<Tallies, Memory>
         ensures { IfOk result (HasTallied plan.now []) }
     {

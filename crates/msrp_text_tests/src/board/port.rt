@@ -1,5 +1,5 @@
-//! A port over a core's seat, as a core's turn on a board needs it: its five calls keep the promises of a port, from
-//! what the board and the seat tell alone.
+//! A port over a core's seat, for one turn on a board: its five calls obey a port's contract, by
+//! what the board and the seat promise alone.
 ghost use Rattle.std.specs.Prelude.{◌≡◌, ◌<◌, ◌∷◌, ◌++◌};
 ghost use Rattle.msrp_plan.specs.Common.{claim_after};
 ghost use Rattle.msrp_plan.specs.declared.units.Call.TheVariants.{Ask, Poll, Leave};
@@ -9,7 +9,7 @@ ghost use Rattle.msrp_board.specs.SeatPorts.{port_calls, port_room, AddsCall, Is
 use msrp_board::{Board, BoardSeat};
 use msrp_plan::{CoreId, ResId};
 
-/// A core's seat, let into its tick, behind the calls of a port.
+/// A core's seat, let into its tick, as a port.
 #[derive(Drop)]
 pub struct SeatPort<'a> {
     pub board: &'a Board,
@@ -18,7 +18,7 @@ pub struct SeatPort<'a> {
 }
 
 impl SeatPort<'_> {
-    /// How many are ahead of the core's request, which is granted where none is.
+    /// The number ahead of the core's request, which is granted if it is 0.
     pub fn ask(&mut self, core: CoreId, res: ResId) -> u32
         requires port { IsPort self.old.board.now self.old.core.0 self.old.seat }
         requires room { 0 < port_room self.old.seat core.0 }
@@ -31,7 +31,7 @@ impl SeatPort<'_> {
         self.board.ask(&mut self.seat, res).ahead
     }
 
-    /// Whether the resource that the core awaits is granted.
+    /// Whether the resource that the core waits for is granted.
     pub fn poll(&mut self, core: CoreId, res: ResId) -> bool
         requires port { IsPort self.old.board.now self.old.core.0 self.old.seat }
         requires room { 0 < port_room self.old.seat core.0 }
@@ -55,7 +55,7 @@ impl SeatPort<'_> {
         self.board.leave(&mut self.seat);
     }
 
-    /// How many calls the core may still make in its tick.
+    /// How many more calls the core may make in its tick.
     pub fn room(&self, core: CoreId) -> u32
         requires { IsPort self.now.board.now self.now.core.0 self.now.seat }
         ensures { result ≡ port_room self.now.seat core.0 }

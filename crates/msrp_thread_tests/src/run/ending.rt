@@ -1,4 +1,4 @@
-//! Runs end, whatever the number of cores, up to the greatest.
+//! Runs end, for each number of cores up to the greatest.
 
 use super::plans::hot;
 use super::stages::Counting;

@@ -1,5 +1,5 @@
-//! Cores that look for each other within one tick: no single thread could make their turns. What each turn answers is kept, and is
-//! what the trace says.
+//! Cores that wait for each other within one tick: no single thread could make their turns. Each
+//! turn's answer is stored, and the trace has the same.
 
 use super::plans::{G, hot, two_sections};
 use super::stages::{Meeting, OneFirst, Rows};
@@ -11,10 +11,10 @@ use std::sync::Wait;
 use std::test::*;
 use std::thread::Threads;
 
-// Past the ticks in which a wait that was long lets the next ones yield at once.
+// More than the ticks in which waits yield at once after a long wait.
 const TICKS: u32 = 70;
 
-// What is written down of each core is what the trace says that it did.
+// What is stored of each core is what the trace has.
 pub(super) fn expect_kept(rt: &impl Abort, rows: &[Row], kept: &Rows) {
     assert_eq!(rt; rows.len(), kept.len());
     for row in rows {
@@ -47,7 +47,7 @@ fn two_cores_meet(rt: HostRuntime) -> Result<(), Fail> {
     Ok(())
 }
 
-// Each number of cores: all meet in tick 0, and the trace has the rows of all their turns.
+// For each number of cores: all meet in tick 0, and the trace has the rows of all turns.
 #[test]
 fn all_cores_meet(rt: HostRuntime) -> Result<(), Fail> {
     for cores in 1..=8 {
@@ -60,7 +60,7 @@ fn all_cores_meet(rt: HostRuntime) -> Result<(), Fail> {
     Ok(())
 }
 
-// The leader has its turn of tick 0 before the follower, so it takes the resource, and the follower queues behind it.
+// The leader's turn of tick 0 is first, so it takes the resource, and the follower queues.
 fn expect_first<R: Threads + Wait + Sync + Abort>(
     rt: &R,
     alloc: Global,
@@ -90,7 +90,7 @@ fn core_one_first(rt: HostRuntime) -> Result<(), Fail> {
     expect_first(&rt, rt.alloc(), 1, 0)
 }
 
-// With the cores' parts exchanged.
+// With the cores exchanged.
 #[test]
 fn core_zero_first(rt: HostRuntime) -> Result<(), Fail> {
     expect_first(&rt, rt.alloc(), 0, 1)

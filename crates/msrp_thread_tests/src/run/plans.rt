@@ -6,7 +6,7 @@ use std::test::Fail;
 
 pub(super) const G: ResId = ResId(0);
 
-// One task more: it locks the resource, works for a tick, and unlocks it.
+// One more task: it locks the resource, works for a tick, and unlocks it.
 fn add_task(builder: &mut PlanBuilder, name: &str, core: u32) -> Result<(), PlanFault> {
     builder.task(name, CoreId(core), 20, 8, 0)?;
     for step in [Step::Lock(G), Step::Run(1), Step::Unlock(G)] {
@@ -17,7 +17,7 @@ fn add_task(builder: &mut PlanBuilder, name: &str, core: u32) -> Result<(), Plan
     Ok(())
 }
 
-// Two cores and one resource, which task 0 of core 0 and task 1 of core 1 want in tick 0.
+// Two cores and one resource, which task 0 of core 0 and task 1 of core 1 request in tick 0.
 pub(super) fn two_sections(alloc: Global) -> Result<Plan, PlanFault> {
     let mut builder = PlanBuilder::new(alloc, 2, 6)?;
     builder.resource("g")?;
@@ -29,7 +29,7 @@ pub(super) fn two_sections(alloc: Global) -> Result<Plan, PlanFault> {
     }
 }
 
-// Sections on two resources, on all cores and almost all of the time.
+// Sections on two resources, on all cores, nearly all of the time.
 pub(super) fn hot(alloc: Global, cores: u32, ticks: u32) -> Result<Plan, Fail> {
     let mut builder = PlanBuilder::new(alloc, cores, ticks)?;
     builder.resource("g")?;

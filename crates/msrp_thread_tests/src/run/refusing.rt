@@ -1,5 +1,5 @@
-//! A thread that is refused stops the run before its first turn, whichever core's it is.
-//! Where memory is refused, all turns were made or none.
+//! A thread that can't start stops the run before its first turn, whichever core's it is. When
+//! memory runs out, either all turns were made or none.
 
 use super::plans::{hot, two_sections};
 use super::stages::Counting;
@@ -17,7 +17,7 @@ use std::thread::Threads;
 
 const TICKS: u32 = 6;
 
-// Refuses one core's thread, and counts how often it is asked.
+// Refuses one core's thread, and counts the questions.
 #[derive(Drop)]
 struct AllBut {
     core: CoreId,
@@ -66,7 +66,7 @@ fn a_refused_thread_stops_the_run(rt: HostRuntime) -> Result<(), Fail> {
     Ok(())
 }
 
-// So it is in the longest run, whose last thread is refused.
+// Also in the longest run, whose last thread is refused.
 #[test]
 fn a_refused_thread_stops_a_long_run(rt: HostRuntime) -> Result<(), Fail> {
     let plan = hot(rt.alloc(), 8, 20000)?;
@@ -79,7 +79,7 @@ fn a_refused_thread_stops_a_long_run(rt: HostRuntime) -> Result<(), Fail> {
     Ok(())
 }
 
-// The engine tells that the thread of this core is refused, and nothing is written.
+// The engine reports this core's refused thread, and writes nothing.
 fn expect_told<R: Threads + Wait + Sync + Abort>(
     rt: &R,
     alloc: Global,
@@ -107,7 +107,7 @@ fn a_refused_thread_is_told(rt: HostRuntime) {
     }
 }
 
-// The turns that were made fit the answer: all of them with a trace, none where a thread was refused, all or none where memory was.
+// The turns fit the answer: all with a trace, none after a refused thread, else all or none.
 #[test]
 fn turns_are_all_or_none(rt: HostRuntime) -> Result<(), Fail> {
     let plan = two_sections(rt.alloc())?;

@@ -1,4 +1,4 @@
-//! Stages whose cores look for each other, and which write down or count the turns.
+//! Stages whose cores wait for each other, and that store or count the turns.
 
 use crossbeam_utils::Backoff;
 use msrp_board::{Board, BoardSeat};
@@ -9,7 +9,7 @@ use msrp_run::{Stage, turn_on};
 use std::alloc::{AllocError, Global};
 use std::sync::atomic::{AtomicBool, AtomicU64, Ordering};
 
-// How often a core looks for another before it gives up.
+// The most looks of a core for another.
 const MOST_LOOKS: u32 = 1_000_000;
 
 // Whether the flag was seen raised before the looks ran out.
@@ -24,15 +24,15 @@ fn sees(flag: &AtomicBool) -> bool {
     false
 }
 
-/// The rows that the turns answer, in a word for each core and tick, since a turn takes no lock.
+/// The rows of the turns, as one word for each core and tick, since a turn takes no lock.
 #[derive(Drop)]
 pub(super) struct Rows {
     cores: u32,
     words: Vec<AtomicU64>,
 }
 
-// A row in a word, but for its tick and core: kind and resource in a byte each; ahead, task and job number in two; and 1 where something
-// stands.
+// A row as a word, without tick and core: kind and resource in a byte each; ahead, task and job
+// number in two; 1 marks a part that is there.
 fn word_of(row: &Row) -> u64 {
     let job = match row.job {
         Some(job) => 1 | u64::from(job.task.0) << 1 | u64::from(job.k) << 16,
@@ -55,7 +55,7 @@ impl Rows {
         })
     }
 
-    /// How many rows there is a word for.
+    /// The number of words.
     pub(super) fn len(&self) -> usize {
         self.words.len()
     }
@@ -72,7 +72,7 @@ impl Rows {
         }
     }
 
-    /// Whether just this row was kept of its core and tick.
+    /// Whether exactly this row was stored for its core and tick.
     pub(super) fn has_just(&self, row: &Row) -> bool {
         match self.word(row) {
             Some(word) => word.load(Ordering::SeqCst) == word_of(row),
@@ -81,7 +81,7 @@ impl Rows {
     }
 }
 
-/// In tick 0 the cores raise a flag each and look for those of all.
+/// In tick 0 each core raises a flag and waits for all flags.
 #[derive(Drop)]
 pub(super) struct Meeting {
     raised: Vec<AtomicBool>,
@@ -144,7 +144,7 @@ impl Stage for Meeting {
     }
 }
 
-/// In tick 0 the other core looks for the leader's flag, which is raised after its turn.
+/// In tick 0 the other core waits for the leader's flag, which is raised after its turn.
 #[derive(Drop)]
 pub(super) struct OneFirst {
     leader: CoreId,

@@ -1,5 +1,5 @@
-//! Two cores on one thread: their turns are made one by one on a board, in an order that is chosen here, and the trace is made of their
-//! logs and of the places that the board told.
+//! Two cores on one thread: their turns on a board, one by one in a chosen order, and the trace
+//! made of their logs and the board's places.
 ghost use Rattle.std.specs.Prelude.{◌≡◌, ◌+◌, ◌<◌};
 ghost use Rattle.msrp_plan.specs.Common.{ℕ, IfOk, Some};
 ghost use Rattle.msrp_board.specs.declared.books.Conductor.TheVariants.{Opened};
@@ -30,7 +30,7 @@ struct Core<'a> {
 }
 
 impl<'a> Core<'a> {
-    // A core before its first turn, and the seat with the books of those behind it.
+    // A core before its first turn, and the seat with the later cores' books.
     fn parted(
         alloc: Global,
         plan: &'a Plan,
@@ -52,7 +52,7 @@ impl<'a> Core<'a> {
         Ok((Core { machine, log, seat }, rest))
     }
 
-    // Looks, is let in, has its turn, arrives, and has others left.
+    // Looks, is let in, has its turn, arrives, and isn't done.
     fn turned(self, rt: &impl Abort, board: &Board) -> Core<'a>
         requires { IsAtWork board.now self.machine.plan self.machine.core self.machine self.log self.seat }
         ensures { IsAtWork board.now self.entry.machine.plan self.entry.machine.core result.machine result.log result.seat }
@@ -69,7 +69,7 @@ impl<'a> Core<'a> {
         Core { machine, log, seat }
     }
 
-    // The core's last turn: it gives back its log and its seat.
+    // The core's last turn: returns its log and its seat.
     fn ended(self, rt: &impl Abort, board: &Board) -> (CoreLog, BoardSeat)
         requires { IsAtWork board.now self.machine.plan self.machine.core self.machine self.log self.seat }
         ensures { HasWorked board.now self.entry.machine.plan self.entry.machine.core result.0 result.1 }
@@ -87,7 +87,7 @@ impl<'a> Core<'a> {
     }
 }
 
-// The two cores of a plan before their first turns, and the other seat, by which they were let in.
+// The two cores of a plan before their first turns, and the other seat, which has let them in.
 fn begun<'a>(
     alloc: Global,
     plan: &'a Plan,
@@ -134,7 +134,7 @@ fn driven(
     (zero.ended(rt, board), one.ended(rt, board))
 }
 
-// The trace of two cores that have ended, and their logs and the board as they left them.
+// The trace of two cores that have ended, with their logs and the board.
 fn merged(
     alloc: Global,
     plan: &Plan,
@@ -205,7 +205,7 @@ const ROWS: [(u32, u32, Kind); 12] = [
     (5, 1, Release),
 ];
 
-// A core's turns have these places.
+// Checks the places of a core's turns.
 fn expect_places(rt: &impl Abort, log: &CoreLog, due: &[Option<(u32, bool)>]) {
     assert_eq!(rt; log.len(), due.len());
     for (tick, due) in (0..TICKS).zip(due) {
@@ -215,7 +215,7 @@ fn expect_places(rt: &impl Abort, log: &CoreLog, due: &[Option<(u32, bool)>]) {
     }
 }
 
-// The core's one job, unless it idles; the resource, where the row is on it; and how many were ahead of a request.
+// The core's one job, unless it idles; the row's resource, if any; and the number ahead.
 fn parts_of(core: u32, kind: Kind) -> (Option<JobId>, Option<ResId>, Option<u32>) {
     let task = TaskId(core);
     let job = Some(JobId { task, k: 0 });
@@ -227,7 +227,7 @@ fn parts_of(core: u32, kind: Kind) -> (Option<JobId>, Option<ResId>, Option<u32>
     }
 }
 
-// A trace has these rows.
+// Checks a trace's rows.
 fn expect_rows(rt: &impl Abort, rows: &[Row], due: &[(u32, u32, Kind)]) {
     assert_eq!(rt; rows.len(), due.len());
     for (row, (tick, core, kind)) in rows.iter().zip(due) {

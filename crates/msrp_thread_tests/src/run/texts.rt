@@ -1,4 +1,4 @@
-//! The text of a run has the rows that the stage's turns answered, in the order of the turns.
+//! The text of a run has the rows of the stage's turns, in the order of the turns.
 
 use super::meeting::expect_kept;
 use super::plans::two_sections;
@@ -16,7 +16,7 @@ use std::test::*;
 pub const PLAN: &[u8] =
     b"msrp,1\ncores,2\nticks,6\nresource,g\ntask,a,0,20,8,0\nop,lock,g\nop,run,1\nop,unlock,g\ntask,b,1,20,8,0\nop,lock,g\nop,run,1\nop,unlock,g\n";
 
-// Whoever has its turn first takes the resource, and works in tick 1 while the other spins.
+// The core with the first turn takes the resource, and works in tick 1 while the other spins.
 const ZERO_FIRST: &[u8] =
     b"msrp-trace,2,2,6\n0,0,take,a,0,g,-\n0,1,queue,b,0,g,1\n1,0,run,a,0,-,-\n1,1,spin,b,0,g,-\n";
 
@@ -26,11 +26,11 @@ const ONE_FIRST: &[u8] =
 const ONE_FIRST_WITHOUT_AHEADS: &[u8] =
     b"msrp-trace,1,2,6\n0,1,take,b,0,g\n0,0,queue,a,0,g\n1,1,run,b,0,-\n1,0,spin,a,0,g\n";
 
-// A job on each of eight cores, all the time of a long run.
+// One job on each of eight cores, which lasts for all of a long run.
 pub const LONG_PLAN: &[u8] =
     b"msrp,1\ncores,8\nticks,2000\ntask,a,0,20,20,0\nop,run,20\ntask,b,1,20,20,0\nop,run,20\ntask,c,2,20,20,0\nop,run,20\ntask,d,3,20,20,0\nop,run,20\ntask,e,4,20,20,0\nop,run,20\ntask,f,5,20,20,0\nop,run,20\ntask,g,6,20,20,0\nop,run,20\ntask,h,7,20,20,0\nop,run,20\n";
 
-// The rows that a reader has left.
+// The remaining rows of a reader.
 fn rows_left<R: Read>(
     alloc: Global,
     reader: &mut TraceReader<'_, R>,
@@ -45,7 +45,7 @@ fn rows_left<R: Read>(
     Ok(rows)
 }
 
-// The rows of a trace's text, or as many as are asked for.
+// The rows of a trace's text, up to a limit.
 fn rows_of<R: Read>(
     alloc: Global,
     source: &mut Source<R>,
