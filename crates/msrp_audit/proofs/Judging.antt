@@ -1,14 +1,16 @@
 -- What an auditor's tests say of a row: whether it is in its turn, and whether its job is one of its core.
 use Rattle.std.proofs.Common.{◌≡◌, ◌≢◌, ◌+◌, ◌*◌, ◌/◌, ◌<◌, ◌≤◌, ◌==◌, ◌&&◌, ◌||◌, ◌∷◌, ◌++◌, ◌∙◌}
-use Rattle.msrp_plan.proofs.Common.{ℕ, zero, suc, Bool, true, false, not, cond, nat_lt, List, [], Option, Some, None, refl, ap, sym, subst, arith, length, length-append, map, inl, inr, eq-eqb, eqb-true, slice_get, list_any, flat_map, range_with_len, AllByRecursion, ⊤, option_or, true≢false, or-true, cases_Bool, cases_lt, lt-ltb, le-ltb, false_from_ne_true, eqb-false, All-contains, All-from_recursion, list_any-append, same_Some, PlanModel, core_of, job_at, jobs_of, jobs, jobs_on, same_job, IsLegal, IsRunStart, EachAfter, had_turn, is_in_turn, is_on_core, is_of_core, is_chosen, is_next_action, is_fifo_reply, log_of, IsPlan, broken, refused, fault_in, fault_or, any_in, not_equal, same_is, same_self, jobs_of_are, core_jobs_below, kept_by, on_its_core, due, legal_due, same_res_is, same_choice_is, same_kind_is, turns_when_due, fault_push, fault_stays, unbroken_is_legal, mul-le-mul_left, div-mul-add, same_res, same_choice, IfSome, and_parts}
+use Rattle.msrp_plan.proofs.Common.{ℕ, zero, suc, Bool, true, false, not, cond, nat_lt, List, [], Option, Some, None, refl, ap, sym, subst, arith, length, length-append, map, inl, inr, eq-eqb, eqb-true, slice_get, list_any, flat_map, range_with_len, AllByRecursion, ⊤, option_or, true≢false, or-true, cases_Bool, cases_lt, lt-ltb, le-ltb, false_from_ne_true, eqb-false, All-contains, All-from_recursion, list_any-append, same_Some, PlanModel, core_of, job_at, jobs_of, jobs, jobs_on, same_job, IsLegal, IsRunStart, EachAfter, had_turn, is_in_turn, is_on_core, is_of_core, is_chosen, is_next_action, is_fifo_reply, log_of, IsPlan, broken, refused, fault_in, fault_or, any_in, not_equal, same_is, same_self, jobs_of_are, core_jobs_below, kept_by, on_its_core, due, legal_due, same_res_is, same_choice_is, same_kind_is, turns_when_due, fault_push, fault_stays, unbroken_is_legal, mul-le-mul_left, div-mul-add, same_res, same_choice, IfSome, IfOk, and_parts}
 use Rattle.msrp_plan.specs.declared.ids.JobId.{JobId}
 use Rattle.msrp_plan.specs.declared.faults.Fault.{Fault}
 use Rattle.msrp_plan.specs.declared.faults.Rule.{Rule}
+use Rattle.msrp_plan.specs.declared.faults.Memory.{Memory}
 use Rattle.msrp_plan.specs.declared.faults.Rule.TheVariants.{A1, A2, A7, A3, A4, A5}
 use Rattle.msrp_plan.specs.declared.rows.Row.{Row}
 use Rattle.msrp_plan.specs.declared.rows.Kind.{Kind}
 use Rattle.msrp_plan.specs.declared.rows.Kind.TheVariants.{Idle, Run, Lock, Unlock, Take, Queue, Spin, Grant, Release}
 use Rattle.msrp_plan.specs.declared.ids.ResId.{ResId}
+use Rattle.std.specs.declared.result.Result.{Result}
 use Rattle.std.specs.declared.result.Result.TheVariants.{Ok, Err}
 use Rattle.std.specs.Option.{option_map, is_some}
 use Rattle.std.proofs.lemmas.Map.Views.{Contains-from_any}
@@ -16,9 +18,10 @@ use Rattle.msrp_plan.proofs.Lists.AnyAll.{all_joined}
 use Rattle.msrp_plan.proofs.Lists.Members.{in_filter}
 use Rattle.msrp_plan.proofs.Jobs.CoreJobs.{job_on_core}
 use Rattle.msrp_plan.proofs.Runs.CoreRuns.{due_by_log}
+use Rattle.msrp_plan.proofs.Runs.Verdicts.{legal_is_unbroken}
 use Rattle.msrp_core.specs.Machine.{MachineModel}
 use Rattle.msrp_sim.specs.Cores.{CoresModel, StandFor, IsDueInRun, IsNextRow, MakesNext, StandOn, IsAs}
-use Rattle.msrp_audit.specs.Audits.{AuditorModel, HasFed, IsDueInAudit, Awaits, answer_of, has_turn, auditor_view, IsAuditorView, place_in}
+use Rattle.msrp_audit.specs.Audits.{AuditorModel, HasFed, IsDueInAudit, IsDueRow, Awaits, answer_of, has_turn, auditor_view, IsAuditorView, place_in}
 use Rattle.msrp_audit.specs.declared.auditor.Auditor.TheInside.{Inside}
 use Rattle.msrp_plan.specs.Kinds.{same_kind}
 use Rattle.msrp_audit.specs.Foresight.{unlike, does_alike, replied_alike, same_action, same_ahead}
@@ -331,6 +334,36 @@ pub awaited_if : (a : AuditorModel) (n : CoresModel) (c : ℕ) (o : Option Row) 
     → IfSome o (λ due. (rows : List Row) → HasFed a rows → Awaits (record a { cores = n }) rows c due)
 awaited_if a n c None is_due same next stand = tt
 awaited_if a n c (Some due) is_due same next stand = λ rows fed. awaited a n rows c due is_due same fed next stand
+
+-- the row that its turn makes is the one that is due
+fault_none : (o : Option Rule) (n : ℕ) → fault_or o n None ≡ None → o ≡ None
+fault_none None n h = refl
+fault_none (Some rule) n h = absurd (cc)
+
+refused_left : (plan : PlanModel) (rows : List Row) (r : Row) → length rows < plan.cores * plan.ticks → refused plan rows r ≡ broken plan rows r
+refused_left plan rows r left = ap (λ b. cond b (broken plan rows r) (Some A7)) (lt-ltb (length rows) (plan.cores * plan.ticks) left)
+
+due_row : (a : AuditorModel) (rows : List Row) (c : ℕ) (due : Row) → IsDueInAudit a c → a.cores.plan ≡ a.plan → HasFed a rows → MakesNext a.cores c due → IsDueRow a.plan rows c due
+due_row a rows c due is_due same fed makes =
+    let plan = a.plan in
+    let good = sym fed.fault ∙ is_due.fault in
+    let left : length rows < plan.cores * plan.ticks = subst (λ n. n < plan.cores * plan.ticks) (fed.count is_due.fault) is_due.left in
+    let row : IsNextRow plan rows c due = subst (λ p. IsNextRow p rows c due) same (makes rows (fed.stand is_due.fault) (due_now a rows c same is_due fed)) in
+    record {
+      next = row;
+      good = fault_next plan rows due None (length rows) good refl (sym (refused_left plan rows due left ∙ legal_is_unbroken plan rows due row.legal));
+      only = λ r core h.
+          let none = fault_none (refused plan rows r) (length rows + 1) (sym (fault_push plan rows r good) ∙ h) in
+          let legal = unbroken_is_legal plan rows r (sym (refused_left plan rows r left) ∙ none) in
+          let next : IsNextRow plan rows r.core.0 due = record { core = row.core ∙ sym core; legal = row.legal; carries = row.carries } in
+          ((legal_due plan rows r legal).tick ∙ sym (legal_due plan rows due row.legal).tick, as_due r due (core ∙ sym row.core) (refused_is plan rows r due left legal.turn legal.own next ∙ none));
+    }
+
+pub due_row_if : (a : AuditorModel) (c : ℕ) (o : Result Row Memory) → IsDueInAudit a c → a.cores.plan ≡ a.plan
+    → IfOk o (MakesNext a.cores c)
+    → IfOk o (λ due. (rows : List Row) → HasFed a rows → IsDueRow a.plan rows c due)
+due_row_if a c (Err memory) is_due same makes = tt
+due_row_if a c (Ok due) is_due same makes = λ rows fed. due_row a rows c due is_due same fed makes
 
 -- the row that came in the turn of the one that is awaited: it is in its turn
 pub came_in_turn : (a : AuditorModel) (rows : List Row) (due r : Row) → Awaits a rows r.core.0 due → r.tick ≡ due.tick → is_in_turn a.plan rows r ≡ true

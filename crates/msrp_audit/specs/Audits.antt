@@ -43,6 +43,13 @@ pub record Awaits (a : AuditorModel) (rows : List Row) (c : ℕ) (due : Row) : T
   pub tick : due.tick ≡ length rows / a.plan.cores
   pub stand : (row : Row) → IsAs due row → IsLegal a.plan rows row → StandFor a.cores (rows ++ row ∷ [])
 
+-- the row is the next one of the core after these rows: with it they have no fault, and with another one of the core
+-- they have one, unless that is as this one
+pub record IsDueRow (plan : PlanModel) (rows : List Row) (c : ℕ) (due : Row) : Type 0 where
+  pub next : IsNextRow plan rows c due
+  pub good : fault_in plan (rows ++ due ∷ []) ≡ None
+  pub only : (row : Row) → row.core.0 ≡ c → fault_in plan (rows ++ row ∷ []) ≡ None → (row.tick ≡ due.tick) × IsAs due row
+
 -- the row breaks that rule after these rows, which have no fault; where it is in its turn, this row was due of its core, and else the auditor
 -- stands before it
 pub record IsBroken (plan : PlanModel) (rows : List Row) (row : Row) (f : Fault) (due : Option Row) (a : AuditorModel) : Type 0 where

@@ -8,7 +8,7 @@ ghost use Rattle.msrp_plan.specs.declared.faults.Fault.{Fault as TraceFault};
 ghost use Rattle.msrp_plan.specs.declared.rows.Row.{Row as TraceRow};
 ghost use Rattle.msrp_sim.specs.Cores.{IsNextRow, IsSomeTurn, IsAs, Leaves, known_row};
 ghost use Rattle.msrp_sim.specs.TurnPorts.{unless_granted};
-ghost use Rattle.msrp_audit.specs.Audits.{HasFed, IsDueInAudit, IsOutOfTurn, Awaits, answer_of, has_turn};
+ghost use Rattle.msrp_audit.specs.Audits.{HasFed, IsDueInAudit, IsDueRow, IsOutOfTurn, Awaits, answer_of, has_turn};
 
 use crate::comparing::unlike_due;
 use msrp_core::CoreState;
@@ -171,6 +171,15 @@ impl<'a> Auditor<'a> {
             return false;
         }
         self.has_turn(core)
+    }
+
+    /// The row that is due of a core that may have its turn now, with its ahead. Fed next, that row has no fault, and of this core
+    /// no other has none, but for one that leaves the ahead out. It is [`Memory`] only where that was refused.
+    pub fn due_row(&self, alloc: Global, core: CoreId) -> Result<Row, Memory>
+        requires { IsDueInAudit self.now core.0 }
+        ensures { IfOk result (λ due. (rows : List TraceRow) → HasFed self.now rows → IsDueRow self.now.plan rows core.0 due) }
+    {
+        self.cores.next_row(alloc, core)
     }
 
     /// The core's turn, where it is known from its last one: its row is that one in the next tick. Elsewhere it is none, and nothing

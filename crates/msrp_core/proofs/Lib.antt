@@ -5,3 +5,4 @@ pub mod Running
 pub mod Acting
 pub mod Turning
 mod Repeating
+mod Copying

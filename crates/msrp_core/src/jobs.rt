@@ -70,6 +70,41 @@ impl<'a> Jobs<'a> {
         })
     }
 
+    // The units of the newest of the started jobs.
+    fn units_of_newest(&self) -> Units<'a>
+        requires { AreOfCore self.now }
+        ensures { ForSome (newest self.now.stack.started) (λ job. result ≡ units self.now.plan.now job) }
+    {
+        match self.stack.top() {
+            Some(job) => self.plan.units_of(job.task),
+            None => Units::none(),
+        }
+    }
+
+    /// The same jobs in memory of their own.
+    pub(crate) fn copied(&self, alloc: Global) -> Result<Jobs<'a>, Memory>
+        requires { AreJobs self.now }
+        ensures same { IfOk result (λ jobs. jobs ≡ record self.now { below = jobs.below; units = jobs.units }) }
+        ensures units { IfOk result (λ jobs. ForSome (newest self.now.stack.started) (λ job. jobs.units ≡ units self.now.plan.now job)) }
+        ensures below { IfOk result (λ jobs. jobs.below.items ≡ self.now.below.items) }
+        ensures room { IfOk result (λ jobs. vec_capacity self.now.below ≤ vec_capacity jobs.below) }
+    {
+        let mut below = Vec::with_capacity(alloc, self.below.capacity())?;
+        below.extend_from_slice(&self.below)?;
+        Ok(Jobs {
+            plan: self.plan,
+            levels: self.levels,
+            core: self.core,
+            phase: self.phase,
+            ready: self.ready.copied(alloc)?,
+            stack: self.stack.copied(alloc)?,
+            progress: self.progress,
+            below,
+            rising: self.rising,
+            units: self.units_of_newest(),
+        })
+    }
+
     // Whether a job comes before who runs, if somebody does.
     #[inline(always)]
     fn comes_first(&self, job: JobId, running: Option<JobId>) -> bool

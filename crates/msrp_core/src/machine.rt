@@ -73,6 +73,19 @@ impl<'a> Machine<'a> {
         })
     }
 
+    /// The same machine in memory of its own: its turns are those of the other. It is [`Memory`] only where that was refused.
+    pub fn copied(&self, alloc: Global) -> Result<Machine<'a>, Memory>
+        ensures { IfOk result (λ machine. machine ≡ self.now) }
+    {
+        Ok(Machine {
+            tick: self.tick,
+            jobs: self.jobs.copied(alloc)?,
+            again: self.again,
+            job: self.job,
+            poll: self.poll,
+        })
+    }
+
     /// The tick of the next turn, which is how many turns the core has had.
     pub fn tick(&self) -> u32
         ensures { result ≡ self.now.tick }

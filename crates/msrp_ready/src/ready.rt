@@ -61,6 +61,21 @@ impl<'a> Ready<'a> {
         })
     }
 
+    /// The same jobs in memory of their own. It is [`Memory`] only where that was refused.
+    pub fn copied(&self, alloc: Global) -> Result<Ready<'a>, Memory>
+        ensures { IfOk result (λ ready. ready ≡ self.now) }
+    {
+        Ok(Ready {
+            plan: self.plan,
+            core: self.core,
+            tick: self.tick,
+            calendar: Vec::from_slice(alloc, &self.calendar)?,
+            next: self.next,
+            coming: self.coming,
+            heap: self.heap.copied(alloc)?,
+        })
+    }
+
     /// Releases the jobs of the core whose release is at or before a tick, which is no earlier than the one before. It takes no
     /// memory.
     pub fn release_to(&mut self, tick: u32)

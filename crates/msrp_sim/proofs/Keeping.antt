@@ -77,51 +77,51 @@ call_resource m c x y r made cores has turned e is =
     ]
 
 -- ---- all cores
-module _ (old new : CoresModel) (c : ℕ) (r : Row) (cores : AreCores old) (t : TakesTurn old new c r) (left : t.before.tick < old.plan.ticks) where
-  its : IsMachineOf old.plan c t.before
-  its = cores.each c t.before t.has
+module _ (old new : CoresModel) (c : ℕ) (r : Row) (cores : AreCores old) (t : TakesTurn old new c r) (left : t.made.before.tick < old.plan.ticks) where
+  its : IsMachineOf old.plan c t.made.before
+  its = cores.each c t.made.before t.made.has
 
   -- the machine that had the turn
-  own_machine : IsMachineOf new.plan c t.after
+  own_machine : IsMachineOf new.plan c t.made.after
   own_machine = record {
-    same_plan = t.turned.plan ∙ (its.same_plan ∙ sym t.plan);
-    core = t.turned.core ∙ its.core;
+    same_plan = t.made.turned.plan ∙ (its.same_plan ∙ sym t.plan);
+    core = t.made.turned.core ∙ its.core;
     log = its.log ++ r ∷ [];
-    stands = t.turned.stands its.log its.stands;
-    left = let d = t.turned.tick in let e : new.plan.ticks ≡ old.plan.ticks = ap (λ (p : PlanModel). p.ticks) t.plan in omega (arith, d, e, left);
+    stands = t.made.turned.stands its.log its.stands;
+    left = let d = t.made.turned.tick in let e : new.plan.ticks ≡ old.plan.ticks = ap (λ (p : PlanModel). p.ticks) t.plan in omega (arith, d, e, left);
   }
 
   -- and the row of the turn
   pub some_turn : IsSomeTurn old.plan c r
   some_turn =
-      let turn = turn_after old new c r cores t its.log its.stands in
+      let turn = turn_after old c r cores t.made its.log its.stands in
       let a = turn.tick in
       let b = its.stands.tick in
-      record { log = its.log; turn = turn; left = omega (arith, a, b, left); ahead = few_ahead old new c r cores t most_rows (few_drawn old cores); carries = carries old new c r cores t }
+      record { log = its.log; turn = turn; left = omega (arith, a, b, left); ahead = few_ahead old c r cores t.made most_rows (few_drawn old cores); carries = carries old c r cores t.made }
 
   -- another
   some_machine : (d : ℕ) (y : MachineModel) → slice_get new.machines d ≡ Some y → (b : Bool) → (d == c) ≡ b → IsMachineOf new.plan d y
   some_machine d y has true e =
       let at : d ≡ c = eqb-true d c e in
-      let own : slice_get new.machines c ≡ Some t.after = ap (λ ms. slice_get ms c) t.machines ∙ get_set_same old.machines c t.before t.after t.has in
-      let is : y ≡ t.after = same_Some y t.after (sym has ∙ (ap (slice_get new.machines) at ∙ own)) in
+      let own : slice_get new.machines c ≡ Some t.made.after = ap (λ ms. slice_get ms c) t.machines ∙ get_set_same old.machines c t.made.before t.made.after t.made.has in
+      let is : y ≡ t.made.after = same_Some y t.made.after (sym has ∙ (ap (slice_get new.machines) at ∙ own)) in
       subst (λ n. IsMachineOf new.plan n y) (sym at) (subst (IsMachineOf new.plan c) (sym is) own_machine)
   some_machine d y has false e =
       let ne : d ≢ c = eqb-false d c e in
-      let other : slice_get new.machines d ≡ slice_get old.machines d = ap (λ ms. slice_get ms d) t.machines ∙ get_set_other old.machines c d t.after ne in
+      let other : slice_get new.machines d ≡ slice_get old.machines d = ap (λ ms. slice_get ms d) t.machines ∙ get_set_other old.machines c d t.made.after ne in
       subst (λ p. IsMachineOf p d y) (sym t.plan) (cores.each d y (sym other ∙ has))
 
   -- one tick more was had, and at most one ticket drawn
   one_tick : ticks_of new.machines ≡ ticks_of old.machines + 1
   one_tick =
-      let within = slice_get_within old.machines c t.before t.has in
-      let a = sum_by-set (λ (x : MachineModel). x.tick) old.machines c t.after t.before within in
-      let b = ap (λ (x : MachineModel). x.tick) (get_or_from_slice_get old.machines c t.before t.before t.has) in
-      let d = t.turned.tick in
+      let within = slice_get_within old.machines c t.made.before t.made.has in
+      let a = sum_by-set (λ (x : MachineModel). x.tick) old.machines c t.made.after t.made.before within in
+      let b = ap (λ (x : MachineModel). x.tick) (get_or_from_slice_get old.machines c t.made.before t.made.before t.made.has) in
+      let d = t.made.turned.tick in
       let e = ap ticks_of t.machines in
       omega (arith, a, b, d, e)
 
-  drawn_by : (o : Option PortCall) → t.call ≡ o → AreDrawn new.queues (ticks_of old.machines + 1)
+  drawn_by : (o : Option PortCall) → t.made.call ≡ o → AreDrawn new.queues (ticks_of old.machines + 1)
   drawn_by None e = subst (λ q. AreDrawn q (ticks_of old.machines + 1)) (sym (t.same e)) (drawn_more old.queues (ticks_of old.machines) cores.drawn)
   drawn_by (Some made) e = (t.noted made e).drawn (ticks_of old.machines) cores.drawn
 
@@ -129,7 +129,7 @@ module _ (old new : CoresModel) (c : ℕ) (r : Row) (cores : AreCores old) (t : 
   pub cores_kept : AreCores new
   cores_kept = record {
     accepted = subst IsPlan (sym t.plan) cores.accepted;
-    size = ap length t.machines ∙ (length-set old.machines c t.after ∙ (cores.size ∙ ap (λ (p : PlanModel). p.cores) (sym t.plan)));
+    size = ap length t.machines ∙ (length-set old.machines c t.made.after ∙ (cores.size ∙ ap (λ (p : PlanModel). p.cores) (sym t.plan)));
     each = λ d y has. some_machine d y has (d == c) refl;
-    drawn = subst (AreDrawn new.queues) (sym one_tick) (drawn_by t.call refl);
+    drawn = subst (AreDrawn new.queues) (sym one_tick) (drawn_by t.made.call refl);
   }

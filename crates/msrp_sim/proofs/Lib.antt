@@ -12,3 +12,4 @@ pub mod Given
 pub mod NextTurn
 pub mod OwnMachine
 pub mod CoreStates
+mod Copied

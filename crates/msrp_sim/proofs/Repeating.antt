@@ -3,7 +3,7 @@ use Rattle.std.proofs.Common.{◌≡◌, ◌<◌, ◌∙◌}
 use Rattle.msrp_plan.proofs.Common.{ℕ, Bool, true, false, cond, Option, Some, None, IfSome, IfNone, set, slice_get, slice_set, refl, ap, sym, subst, set-get_or, get_or_from_slice_get, none-some, in_tick}
 use Rattle.msrp_plan.specs.declared.rows.Row.{Row}
 use Rattle.msrp_core.specs.Machine.{MachineModel, next_known}
-use Rattle.msrp_sim.specs.Cores.{CoresModel, AreCores, TakesTurn, Leaves, MakesNext, StandOn, again_of, known_row}
+use Rattle.msrp_sim.specs.Cores.{CoresModel, AreCores, MakesTurn, TakesTurn, Leaves, MakesNext, StandOn, again_of, known_row}
 use Rattle.msrp_sim.specs.TurnPorts.{HasRepeated, is_granted, unless_granted}
 use Rattle.msrp_sim.specs.declared.tickets.Queues.{Queues}
 use Rattle.msrp_sim.proofs.Keeping.{cores_kept}
@@ -18,15 +18,15 @@ in_own_tick (Some next) t r h = let e : next.tick ≡ t = ap (λ (x : Row). x.ti
 
 module _ (old new : CoresModel) (c : ℕ) (r : Row) (cores : AreCores old) (t : TakesTurn old new c r) where
   pub at_core : r.core.0 ≡ c
-  at_core = let its = cores.each c t.before t.has in (t.turned.row its.log its.stands).core ∙ its.core
+  at_core = let its = cores.each c t.made.before t.made.has in (t.made.turned.row its.log its.stands).core ∙ its.core
 
-  own_next : known_row new c ≡ next_known t.after
-  own_next = ap again_of (ap (λ ms. slice_get ms c) t.machines ∙ get_set_same old.machines c t.before t.after t.has)
+  own_next : known_row new c ≡ next_known t.made.after
+  own_next = ap again_of (ap (λ ms. slice_get ms c) t.machines ∙ get_set_same old.machines c t.made.before t.made.after t.made.has)
 
   pub leaves : Leaves old new r
   leaves = record {
-    own = subst (λ o. IfSome o (λ next. next ≡ in_tick next.tick r)) (sym (ap (known_row new) at_core ∙ own_next)) (in_own_tick (next_known t.after) t.after.tick r t.turned.again);
-    others = λ d ne. ap again_of (ap (λ ms. slice_get ms d) t.machines ∙ get_set_other old.machines c d t.after (λ e. ne (e ∙ sym at_core)));
+    own = subst (λ o. IfSome o (λ next. next ≡ in_tick next.tick r)) (sym (ap (known_row new) at_core ∙ own_next)) (in_own_tick (next_known t.made.after) t.made.after.tick r t.made.turned.again);
+    others = λ d ne. ap again_of (ap (λ ms. slice_get ms d) t.machines ∙ get_set_other old.machines c d t.made.after (λ e. ne (e ∙ sym at_core)));
   }
 
 -- what is made again is what is known
@@ -47,8 +47,11 @@ known_if q c (Some r) known e = known_by q c known r (sym e)
 abbrev pub with_machine : CoresModel → ℕ → MachineModel → CoresModel
 with_machine m c y = record { plan = m.plan; machines = slice_set m.machines c y; queues = m.queues }
 
+abbrev makes : (m : CoresModel) (c : ℕ) (x y : MachineModel) (r : Row) → slice_get m.machines c ≡ Some x → HasRepeated m.queues x y r → MakesTurn m c r
+makes m c x y r has t = record { before = x; after = y; call = t.call; has = has; turned = t.turned }
+
 abbrev takes : (m : CoresModel) (c : ℕ) (x y : MachineModel) (r : Row) → slice_get m.machines c ≡ Some x → HasRepeated m.queues x y r → TakesTurn m (with_machine m c y) c r
-takes m c x y r has t = record { plan = refl; before = x; after = y; call = t.call; has = has; machines = refl; turned = t.turned; same = λ _. refl; noted = λ e h. notes_poll e false m.queues (t.vain e h) }
+takes m c x y r has t = record { plan = refl; made = makes m c x y r has t; machines = refl; same = λ _. refl; noted = λ e h. notes_poll e false m.queues (t.vain e h) }
 
 -- nothing changes where the machine doesn't
 same_cores : (m : CoresModel) (c : ℕ) (x y : MachineModel) → slice_get m.machines c ≡ Some x → y ≡ x → with_machine m c y ≡ m
@@ -75,7 +78,7 @@ leaves_if m c x y (Some r) cores has t = leaves m (with_machine m c y) c r cores
 pub next_if : (m : CoresModel) (c : ℕ) (x y : MachineModel) (o : Option Row) → AreCores m → slice_get m.machines c ≡ Some x → IfSome o (HasRepeated m.queues x y)
     → IfSome o (MakesNext m c)
 next_if m c x y None cores has t = tt
-next_if m c x y (Some r) cores has t = λ rows stands due. next_legal m (with_machine m c y) c r rows cores stands due (takes m c x y r has t)
+next_if m c x y (Some r) cores has t = λ rows stands due. next_legal m c r rows cores stands due (makes m c x y r has t)
 
 pub stand_if : (m : CoresModel) (c : ℕ) (x y : MachineModel) (o : Option Row) → AreCores m → slice_get m.machines c ≡ Some x → IfSome o (HasRepeated m.queues x y)
     → IfSome o (StandOn m (with_machine m c y) c)

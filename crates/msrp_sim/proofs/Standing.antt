@@ -65,30 +65,30 @@ off_by o res g e h = ap (is_on g) e ∙ h
 
 module _ (old new : CoresModel) (c : ℕ) (made r : Row) (rows : List Row) (cores : AreCores old) (stands : StandFor old rows) (due : IsDueInRun old.plan rows c) (t : TakesTurn old new c made) (like : IsAs made r) (legal : IsLegal old.plan rows r) where
   at_core : r.core.0 ≡ c
-  at_core = like.core ∙ (turn_row old new c made rows cores stands due t).core
+  at_core = like.core ∙ (turn_row old c made rows cores stands due t.made).core
 
   -- each machine
-  own_log : (y : MachineModel) → y ≡ t.after → StandsAfter y (log_of c (rows ++ r ∷ []))
+  own_log : (y : MachineModel) → y ≡ t.made.after → StandsAfter y (log_of c (rows ++ r ∷ []))
   own_log y e = subst (λ z. StandsAfter z (log_of c (rows ++ r ∷ []))) (sym e)
-      (subst (StandsAfter t.after) (sym (log_own rows r c at_core)) (stands_as t.after made r (log_of c rows) like.kind like.job like.res (t.turned.stands (log_of c rows) (stands.logs c t.before t.has))))
+      (subst (StandsAfter t.made.after) (sym (log_own rows r c at_core)) (stands_as t.made.after made r (log_of c rows) like.kind like.job like.res (t.made.turned.stands (log_of c rows) (stands.logs c t.made.before t.made.has))))
 
   some_log : (d : ℕ) (y : MachineModel) → slice_get new.machines d ≡ Some y → (b : Bool) → (d == c) ≡ b → StandsAfter y (log_of d (rows ++ r ∷ []))
   some_log d y has true e =
       let at : d ≡ c = eqb-true d c e in
-      let own : slice_get new.machines c ≡ Some t.after = ap (λ ms. slice_get ms c) t.machines ∙ get_set_same old.machines c t.before t.after t.has in
-      subst (λ n. StandsAfter y (log_of n (rows ++ r ∷ []))) (sym at) (own_log y (same_Some y t.after (sym has ∙ (ap (slice_get new.machines) at ∙ own))))
+      let own : slice_get new.machines c ≡ Some t.made.after = ap (λ ms. slice_get ms c) t.machines ∙ get_set_same old.machines c t.made.before t.made.after t.made.has in
+      subst (λ n. StandsAfter y (log_of n (rows ++ r ∷ []))) (sym at) (own_log y (same_Some y t.made.after (sym has ∙ (ap (slice_get new.machines) at ∙ own))))
   some_log d y has false e =
       let ne : d ≢ c = eqb-false d c e in
-      let other : slice_get new.machines d ≡ slice_get old.machines d = ap (λ ms. slice_get ms d) t.machines ∙ get_set_other old.machines c d t.after ne in
+      let other : slice_get new.machines d ≡ slice_get old.machines d = ap (λ ms. slice_get ms d) t.machines ∙ get_set_other old.machines c d t.made.after ne in
       subst (StandsAfter y) (sym (log_other rows r d (λ k. ne (sym (sym at_core ∙ k))))) (stands.logs d y (sym other ∙ has))
 
   -- ---- the queues
   -- the machine goes from the one phase to the other
-  phase_before : phases_at rows made.core.0 ≡ t.before.phase
-  phase_before = ap (phases_at rows) (turn_row old new c made rows cores stands due t).core ∙ sym (stands.logs c t.before t.has).phase
+  phase_before : phases_at rows made.core.0 ≡ t.made.before.phase
+  phase_before = ap (phases_at rows) (turn_row old c made rows cores stands due t.made).core ∙ sym (stands.logs c t.made.before t.made.has).phase
 
-  phase_now : phases_at (rows ++ r ∷ []) c ≡ t.after.phase
-  phase_now = sym (own_log t.after refl).phase
+  phase_now : phases_at (rows ++ r ∷ []) c ≡ t.made.after.phase
+  phase_now = sym (own_log t.made.after refl).phase
 
   other_phase : (d : ℕ) → (r.core.0 == d) ≡ false → phases_at (rows ++ r ∷ []) d ≡ phases_at rows d
   other_phase d off = ap phase_after (log_other rows r d (eqb-false r.core.0 d off))
@@ -101,7 +101,7 @@ module _ (old new : CoresModel) (c : ℕ) (made r : Row) (rows : List Row) (core
   ]
 
   -- where the turn makes a call
-  call_serving : MakesCallOf old.queues t.before t.after made t.call → IsServing (locks_at old.plan (rows ++ r ∷ [])) (phases_at (rows ++ r ∷ [])) new.queues
+  call_serving : MakesCallOf old.queues t.made.before t.made.after made t.made.call → IsServing (locks_at old.plan (rows ++ r ∷ [])) (phases_at (rows ++ r ∷ [])) new.queues
   call_serving mc =
       (t.noted e mc.is).serving (locks_at old.plan rows) (locks_at old.plan (rows ++ r ∷ [])) (phases_at rows) (phases_at (rows ++ r ∷ [])) stands.serving
       (record {
@@ -110,16 +110,16 @@ module _ (old new : CoresModel) (c : ℕ) (made r : Row) (rows : List Row) (core
         claim = ap (phases_at (rows ++ r ∷ [])) at_made ∙ (phase_now ∙ (mc.claim ∙ ap (λ p. claim_with p mc.res mc.call) (sym phase_before)));
         other_claims = λ d off. other_phase d (ap (λ n. n == d) like.core ∙ off);
       })
-      (answers_at old new c made rows cores stands due t mc) (in_phase old new c made rows cores stands due t mc)
+      (answers_at old c made rows cores stands due t.made mc) (in_phase old c made rows cores stands due t.made mc)
     where
       e : PortCall
       e = record { core = made.core; res = mc.res; call = mc.call }
 
       at_made : made.core.0 ≡ c
-      at_made = (turn_row old new c made rows cores stands due t).core
+      at_made = (turn_row old c made rows cores stands due t.made).core
 
       glob : is_global old.plan mc.res.0 ≡ true
-      glob = on_global old new c made rows cores stands due t mc
+      glob = on_global old c made rows cores stands due t.made mc
 
       told : (o : Option ℕ) → IfSome o (λ n. made.ahead ≡ Some n) → IfSome o (λ n. ahead_of_call mc.call ≡ Some n)
       told None h = tt
@@ -127,7 +127,7 @@ module _ (old new : CoresModel) (c : ℕ) (made r : Row) (rows : List Row) (core
 
       own_lock : locks_at old.plan (rows ++ r ∷ []) mc.res.0 ≡ lock_after (locks_at old.plan rows mc.res.0) made.core.0 mc.call
       own_lock =
-          let answers : Answers (lock_at old.plan mc.res.0 rows) made.core.0 mc.call = lock_answers old new c made rows cores stands due t mc in
+          let answers : Answers (lock_at old.plan mc.res.0 rows) made.core.0 mc.call = lock_answers old c made rows cores stands due t.made mc in
           let row : IsRowOfCall mc.res.0 r.core.0 mc.call r = record { core = refl; resource = like.res ∙ mc.resource; kind = like.kind ∙ mc.kind; ahead = told r.ahead like.ahead } in
           let agrees = agree_at old.plan mc.res.0 rows r mc.call cores.accepted glob stands.start.each legal row (tells_from_answers old.plan (fifo mc.res.0 rows) (first_holds old.plan rows mc.res.0 (fifo mc.res.0 rows)) made.core.0 mc.call answers) in
           lock_of_global old.plan (rows ++ r ∷ []) mc.res.0 glob
@@ -138,9 +138,9 @@ module _ (old new : CoresModel) (c : ℕ) (made r : Row) (rows : List Row) (core
   -- and where it makes none
   quiet_serving : IsQuiet old.plan made → IsServing (locks_at old.plan (rows ++ r ∷ [])) (phases_at (rows ++ r ∷ [])) new.queues
   quiet_serving quiet =
-      let x = cores.each c t.before t.has in
-      let none = t.turned.quiet (subst (λ p. IsQuiet p made) (sym x.same_plan) quiet) in
-      let own : phases_at (rows ++ r ∷ []) c ≡ phases_at rows c = phase_now ∙ (none.1 ∙ (stands.logs c t.before t.has).phase) in
+      let x = cores.each c t.made.before t.made.has in
+      let none = t.made.turned.quiet (subst (λ p. IsQuiet p made) (sym x.same_plan) quiet) in
+      let own : phases_at (rows ++ r ∷ []) c ≡ phases_at rows c = phase_now ∙ (none.1 ∙ (stands.logs c t.made.before t.made.has).phase) in
       subst (IsServing (locks_at old.plan (rows ++ r ∷ [])) (phases_at (rows ++ r ∷ []))) (sym (t.same none.0))
       (serving_as (locks_at old.plan rows) (locks_at old.plan (rows ++ r ∷ [])) (phases_at rows) (phases_at (rows ++ r ∷ [])) old.queues
       (λ g. off_lock g (λ glob. quiet_off quiet g glob r.res refl)) (λ d. same_phase own d (r.core.0 == d) refl) stands.serving)
@@ -159,7 +159,7 @@ module _ (old new : CoresModel) (c : ℕ) (made r : Row) (rows : List Row) (core
   serving_by : (o : Option ResId) → made.res ≡ o → IsServing (locks_at old.plan (rows ++ r ∷ [])) (phases_at (rows ++ r ∷ [])) new.queues
   serving_by None e = quiet_serving (λ res h. let no : None ≡ Some res = sym e ∙ h in absurd (cc))
   serving_by (Some res) e = elim (cases_Bool (is_global old.plan res.0)) [
-    | inl own ↦ call_serving (t.turned.call res e (ap (λ p. is_global p res.0) (cores.each c t.before t.has).same_plan ∙ own))
+    | inl own ↦ call_serving (t.made.turned.call res e (ap (λ p. is_global p res.0) (cores.each c t.made.before t.made.has).same_plan ∙ own))
     | inr loc ↦ quiet_serving (λ res' h. subst (λ (k : ResId). is_global old.plan k.0 ≡ false) (same_Some res res' (sym e ∙ h)) loc)
   ]
 

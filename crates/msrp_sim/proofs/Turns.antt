@@ -14,7 +14,7 @@ use Rattle.msrp_plan.proofs.Legality.Locality.{chosen_local, action_local}
 use Rattle.msrp_plan.proofs.Runs.RoundRobin.{in_turn_of}
 use Rattle.msrp_plan.proofs.Queues.QueueLocks.{reply_at}
 use Rattle.msrp_core.specs.Machine.{StandsAfter}
-use Rattle.msrp_sim.specs.Cores.{CoresModel, AreCores, IsMachineOf, StandFor, IsDueInRun, IsNextRow, TakesTurn, locks_at, phases_at}
+use Rattle.msrp_sim.specs.Cores.{CoresModel, AreCores, IsMachineOf, StandFor, IsDueInRun, IsNextRow, MakesTurn, locks_at, phases_at}
 use Rattle.msrp_sim.specs.Serving.{AreDrawn, IsTold}
 use Rattle.msrp_sim.specs.TurnPorts.{MakesCallOf}
 use Rattle.msrp_sim.specs.declared.tickets.Queues.{Queues}
@@ -79,7 +79,7 @@ few_told q c g (Ask (suc k)) n drawn told = let most = (drawn g).0 in omega (ari
 few_told q c g (Poll granted) n drawn told = tt
 few_told q c g Leave n drawn told = tt
 
-module _ (old new : CoresModel) (c : ℕ) (r : Row) (cores : AreCores old) (t : TakesTurn old new c r) where
+module _ (old : CoresModel) (c : ℕ) (r : Row) (cores : AreCores old) (t : MakesTurn old c r) where
   its : IsMachineOf old.plan c t.before
   its = cores.each c t.before t.has
 
@@ -110,9 +110,9 @@ module _ (old new : CoresModel) (c : ℕ) (r : Row) (cores : AreCores old) (t : 
 pub both_pass : (a b : Bool) → a ≡ true → b ≡ true → (a && b) ≡ true
 both_pass a b h k = ap (λ c. c && b) h ∙ k
 
-module _ (old new : CoresModel) (c : ℕ) (r : Row) (rows : List Row) (cores : AreCores old) (stands : StandFor old rows) (due : IsDueInRun old.plan rows c) (t : TakesTurn old new c r) where
+module _ (old : CoresModel) (c : ℕ) (r : Row) (rows : List Row) (cores : AreCores old) (stands : StandFor old rows) (due : IsDueInRun old.plan rows c) (t : MakesTurn old c r) where
   pub turn_row : IsCoreTurn old.plan c (log_of c rows) r
-  turn_row = turn_after old new c r cores t (log_of c rows) (stands.logs c t.before t.has)
+  turn_row = turn_after old c r cores t (log_of c rows) (stands.logs c t.before t.has)
 
   are_own : AreOwn old.plan rows
   are_own = own_from_legal old.plan [] rows stands.start.each
@@ -164,5 +164,5 @@ module _ (old new : CoresModel) (c : ℕ) (r : Row) (rows : List Row) (cores : A
   next_legal = record {
     core = turn_row.core;
     legal = record { turn = in_turn; own = turn_row.own; chosen = chosen_local old.plan c rows r are_own turn_row; action = action_local old.plan c rows r are_own turn_row; reply = passes_by r.res refl };
-    carries = carries old new c r cores t;
+    carries = carries old c r cores t;
   }

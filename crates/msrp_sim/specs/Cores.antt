@@ -110,14 +110,18 @@ pub record AreNew (plan : PlanModel) (n : ℕ) (machines : List MachineModel) : 
   pub size : length machines ≡ n
   pub each : (c : ℕ) (x : MachineModel) → slice_get machines c ≡ Some x → IsNew plan c x
 
--- one turn of a core: its machine goes one tick on, and its call, if it makes one, goes into the queues
-pub record TakesTurn (old new : CoresModel) (c : ℕ) (r : Row) : Type 0 where
-  pub plan : new.plan ≡ old.plan
+-- one turn of a core, by its machine and these queues, and its call, if it makes one
+pub record MakesTurn (old : CoresModel) (c : ℕ) (r : Row) : Type 0 where
   pub before : MachineModel
   pub after : MachineModel
   pub call : Option PortCall
   pub has : slice_get old.machines c ≡ Some before
-  pub machines : new.machines ≡ slice_set old.machines c after
   pub turned : HasTurned old.queues before after r call
-  pub same : call ≡ None → new.queues ≡ old.queues
-  pub noted : ForSome call (λ e. Notes e old.queues new.queues)
+
+-- its machine goes one tick on, and the call goes into the queues
+pub record TakesTurn (old new : CoresModel) (c : ℕ) (r : Row) : Type 0 where
+  pub plan : new.plan ≡ old.plan
+  pub made : MakesTurn old c r
+  pub machines : new.machines ≡ slice_set old.machines c made.after
+  pub same : made.call ≡ None → new.queues ≡ old.queues
+  pub noted : ForSome made.call (λ e. Notes e old.queues new.queues)

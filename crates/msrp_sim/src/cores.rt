@@ -109,6 +109,17 @@ impl<'a> Cores<'a> {
         self.machines[core.0 as usize].state()
     }
 
+    /// The row of the core's next turn, which a copy of its machine makes. It is [`Memory`] only where that was refused.
+    pub fn next_row(&self, alloc: Global, core: CoreId) -> Result<Row, Memory>
+        requires core { core.0 < self.now.plan.cores }
+        requires tick { (x : MachineModel) → slice_get self.now.machines core.0 ≡ Some x → x.tick < self.now.plan.ticks }
+        ensures core { IfOk result (λ row. row.core.0 ≡ core.0) }
+        ensures next { IfOk result (MakesNext self.now core.0) }
+    {
+        let mut machine = self.machines[core.0 as usize].copied(alloc)?;
+        Ok(turn_by(&self.queues, self.plan.resources(), &mut machine).row)
+    }
+
     /// The core's next turn, where it is known from its last one: its row is that one in the next tick. That takes no choice,
     /// and a queue is asked only where the core polled in vain: it does so again, unless its poll is granted. Elsewhere it is none,
     /// and nothing changes.

@@ -84,6 +84,22 @@ fn room(alloc: Global, plan: &Plan, core: CoreId) -> Result<Vec<Started>, Memory
     Ok(Vec::with_capacity(alloc, plan.jobs_on(core))?)
 }
 
+// The same jobs in memory of their own, which has this room.
+fn copied_jobs(alloc: Global, jobs: &[Started], room: usize) -> Result<Vec<Started>, Memory>
+    requires { length jobs.now ≤ room }
+    ensures jobs { IfOk result (λ copy. copy.items ≡ jobs.now) }
+    ensures room { IfOk result (λ copy. vec_capacity copy ≡ room) }
+{
+    let mut copy = Vec::with_capacity(alloc, room)?;
+    for one in jobs {
+        copy.push_reserved(Started {
+            job: one.job,
+            held: one.held.clone()?,
+        });
+    }
+    Ok(copy)
+}
+
 impl<'a> CeilingStack<'a> {
     /// A stack without a started job, with all memory that it needs; [`Memory`] only if it runs
     /// out.
@@ -103,6 +119,19 @@ impl<'a> CeilingStack<'a> {
             ceilings: ceilings_at(plan, levels, core),
             started: room(alloc, plan, core)?,
             ceiling: 0,
+        })
+    }
+
+    /// The same stack in memory of its own. It is [`Memory`] only where that was refused.
+    pub fn copied(&self, alloc: Global) -> Result<CeilingStack<'a>, Memory>
+        ensures { IfOk result (λ stack. stack ≡ self.now) }
+    {
+        Ok(CeilingStack {
+            plan: self.plan,
+            core: self.core,
+            ceilings: self.ceilings,
+            started: copied_jobs(alloc, &self.started, self.started.capacity())?,
+            ceiling: self.ceiling,
         })
     }
 

@@ -1,7 +1,7 @@
 use Rattle.std.proofs.Common.{◌≡◌, ◌<◌, ◌∙◌}
 use Rattle.msrp_plan.proofs.Common.{Some, slice_get, length, refl, ap, sym, subst, with_item, PlanModel}
 use Rattle.msrp_core.specs.Machine.{MachineModel}
-use Rattle.msrp_sim.specs.Cores.{CoresModel, IsSomeTurn, Leaves, MakesNext, StandOn, TakesTurn}
+use Rattle.msrp_sim.specs.Cores.{CoresModel, IsSomeTurn, Leaves, MakesNext, MakesTurn, StandOn, TakesTurn}
 use Rattle.msrp_sim.specs.CoresView.{cores_view}
 use Rattle.msrp_sim.proofs.OwnMachine.{has_machine, left}
 use Rattle.msrp_sim.proofs.Repeating.{at_core, leaves}
@@ -60,15 +60,18 @@ has_left c = left (old c) c.args.core.0 (machine c) c.args.self.now c.self.invar
 abbrev new : goal.After-result-1 → CoresModel
 new c = cores_view (record { plan = c.self.inside.plan; machines = with_item c.self.inside.machines c.args.core.0 c.turn_by-turned.new.machine; queues = c.note_turn.new.queues })
 
+abbrev makes : (c : goal.After-result-1) → MakesTurn (old c) c.args.core.0 c.turn_by-turned.result.row
+makes c = record { before = machine c; after = c.turn_by-turned.new.machine; call = c.turn_by-turned.result.call; has = has c; turned = c.turn_by-turned.ensures }
+
 abbrev takes : (c : goal.After-result-1) → TakesTurn (old c) (new c) c.args.core.0 c.turn_by-turned.result.row
-takes c = record { plan = refl; before = machine c; after = c.turn_by-turned.new.machine; call = c.turn_by-turned.result.call; has = has c; machines = refl; turned = c.turn_by-turned.ensures; same = c.note_turn.ensures.none; noted = c.note_turn.ensures.noted }
+takes c = record { plan = refl; made = makes c; machines = refl; same = c.note_turn.ensures.none; noted = c.note_turn.ensures.noted }
 
 pub invariant_of-self : goal.invariant_of-self
 invariant_of-self c = cores_kept (old c) (new c) c.args.core.0 c.turn_by-turned.result.row c.self.invariant (takes c) (has_left c)
 
 pub returns-clause-next : goal.returns-clause-next
 returns-clause-next c =
-    subst (λ (o : CoresModel). MakesNext o c.args.core.0 c.turn_by-turned.result.row) c.self.view_is (λ rows stands due. next_legal (old c) (new c) c.args.core.0 c.turn_by-turned.result.row rows c.self.invariant stands due (takes c))
+    subst (λ (o : CoresModel). MakesNext o c.args.core.0 c.turn_by-turned.result.row) c.self.view_is (λ rows stands due. next_legal (old c) c.args.core.0 c.turn_by-turned.result.row rows c.self.invariant stands due (makes c))
 
 pub returns-clause-stand : goal.returns-clause-stand
 returns-clause-stand c =
