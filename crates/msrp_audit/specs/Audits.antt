@@ -50,8 +50,8 @@ pub record IsDueRow (plan : PlanModel) (rows : List Row) (c : ℕ) (due : Row) :
   pub good : fault_in plan (rows ++ due ∷ []) ≡ None
   pub only : (row : Row) → row.core.0 ≡ c → fault_in plan (rows ++ row ∷ []) ≡ None → (row.tick ≡ due.tick) × IsAs due row
 
--- the row breaks that rule after these rows, which have no fault; where it is in its turn, this row was due of its core, and else the auditor
--- stands before it
+-- the row violates that rule after these rows, which have no fault; in its turn, this was its
+-- core's expected row; otherwise the auditor is before it
 pub record IsBroken (plan : PlanModel) (rows : List Row) (row : Row) (f : Fault) (due : Option Row) (a : AuditorModel) : Type 0 where
   pub fault : fault_in plan (rows ++ row ∷ []) ≡ Some f
   pub turn : length rows < plan.cores * plan.ticks → is_in_turn plan rows row ≡ true → IsSomeAnd due (IsNextRow plan rows row.core.0)

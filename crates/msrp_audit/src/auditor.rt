@@ -182,8 +182,8 @@ impl<'a> Auditor<'a> {
         self.cores.next_row(alloc, core)
     }
 
-    /// The core's turn, where it is known from its last one: its row is that one in the next tick. Elsewhere it is none, and nothing
-    /// changes. What came is told by [`accept`](Auditor::accept) or [`judge`](Auditor::judge).
+    /// The core's turn if it is known to repeat its last row. Otherwise none, and nothing changes.
+    /// Report the trace's row by [`accept`](Auditor::accept) or [`judge`](Auditor::judge).
     #[inline(always)]
     pub fn repeat(&mut self, core: CoreId) -> Option<Row>
         requires { IsDueInAudit self.old core.0 }

@@ -105,7 +105,7 @@ impl<'a> Jobs<'a> {
         })
     }
 
-    // Whether a job comes before who runs, if somebody does.
+    // Whether a job comes before the running one, if there is one.
     #[inline(always)]
     fn comes_first(&self, job: JobId, running: Option<JobId>) -> bool
         requires known { Contains (jobs_on self.now.plan.now self.now.core.0) job }

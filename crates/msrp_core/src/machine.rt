@@ -86,7 +86,7 @@ impl<'a> Machine<'a> {
         })
     }
 
-    /// The tick of the next turn, which is how many turns the core has had.
+    /// The tick of the next turn: the number of turns so far.
     pub fn tick(&self) -> u32
         ensures { result ≡ self.now.tick }
     {

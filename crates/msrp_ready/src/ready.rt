@@ -76,8 +76,7 @@ impl<'a> Ready<'a> {
         })
     }
 
-    /// Releases the jobs of the core whose release is at or before a tick, which is no earlier than the one before. It takes no
-    /// memory.
+    /// Releases the core's jobs up to a tick, which isn't before the last one. Allocates nothing.
     pub fn release_to(&mut self, tick: u32)
         requires { ForSome self.old.tick (λ before. before ≤ tick) }
         ensures tick { self.new ≡ record self.old { tick = Some tick; compared = self.new.compared } }

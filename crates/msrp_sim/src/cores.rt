@@ -120,9 +120,9 @@ impl<'a> Cores<'a> {
         Ok(turn_by(&self.queues, self.plan.resources(), &mut machine).row)
     }
 
-    /// The core's next turn, where it is known from its last one: its row is that one in the next tick. That takes no choice,
-    /// and a queue is asked only where the core polled in vain: it does so again, unless its poll is granted. Elsewhere it is none,
-    /// and nothing changes.
+    /// The core's next turn if it is known to repeat its last row. Needs no choice; a queue is
+    /// asked only if the core's poll wasn't granted: it polls again, unless it would be granted
+    /// now. Otherwise none, and nothing changes.
     #[inline(always)]
     pub fn repeat(&mut self, core: CoreId) -> Option<Row>
         requires core { core.0 < self.old.plan.cores }

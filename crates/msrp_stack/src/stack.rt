@@ -135,7 +135,7 @@ impl<'a> CeilingStack<'a> {
         })
     }
 
-    /// Starts a job of the core, which then stands on top: it comes before the job that was on top.
+    /// Starts a job of the core, which comes before the job on top and is the new top.
     pub fn start(&mut self, job: JobId)
         requires { CanStart self.old job }
         ensures { self.new ≡ record self.old { started = record { job = job; held = [] } ∷ self.old.started } }
