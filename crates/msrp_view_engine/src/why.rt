@@ -16,13 +16,15 @@ ghost use Rattle.msrp_view_engine.specs.Whys.{BeginsRefused, BeginsRow, IsExplai
 use crate::words::{Words, answer_to};
 use csv::ByteRecord;
 use msrp_audit::Auditor;
-use msrp_engine::{CliFault, JudgedRows, Judgement, Made, gathered_text, settled, write_answer};
+use msrp_engine::{
+    Broken, CliFault, JudgedRows, Judgement, Made, gathered_text, settled, write_answer,
+};
 use msrp_levels::Levels;
 use msrp_plan::bytes::{Sink, Source};
 use msrp_plan::{Fault, Plan, Row, TextVersion};
 use msrp_text::read_plan;
 use msrp_trace::{TraceError, TraceReader};
-use msrp_why::{Exercise, Ground, Missing, Notes, RefusedRecord, Why, cause_of};
+use msrp_why::{Exercise, Ground, Missing, Notes, RefusedRecord, RefusedRow, Why, cause_of};
 use std::alloc::Global;
 use std::fmt::Display;
 use std::io::{Read, Write};
@@ -144,6 +146,40 @@ fn words_on(
             words_with(alloc, verdict, &missing)
         }
     }
+}
+
+/// The words on the fault of a row that was fed to this auditor. They are told without what the
+/// rows before it left.
+pub fn why_of_row(
+    alloc: Global,
+    plan: &Plan,
+    levels: &Levels<'_>,
+    auditor: &Auditor<'_>,
+    row: Row,
+    broken: Broken,
+) -> Result<Words, CliFault>
+    requires plan { auditor.now.plan ≡ plan.now }
+    requires levels { levels.now ≡ plan.now }
+    ensures found { IfOk result (λ words. words.found ≡ Ok (Err broken.fault)) }
+    ensures words { IfOk result AreOnTrace }
+    ensures memory { IfErr result (λ fault. fault ≡ CliFault.Memory) }
+{
+    let Broken { fault, expected } = broken;
+    let notes = Notes::none(alloc);
+    let cause = cause_of(plan, auditor, notes, None, expected, row, None, fault);
+    words_with(alloc, Err(fault), &Why::of_fed(plan, levels, &cause))
+}
+
+/// The words on a row that was fed and is none of the plan, by the number after R of its code.
+pub fn why_of_refused_row(alloc: Global, code: u32, number: u32) -> Result<Words, CliFault>
+    ensures found { IfOk result (λ words. words.found ≡ Err (CliFault.Trace code number)) }
+    ensures memory { IfErr result (λ fault. fault ≡ CliFault.Memory) }
+{
+    let refused = RefusedRow { code, number };
+    Ok(Words {
+        text: format!(in alloc; "{refused}")?.into_bytes(),
+        found: Err(CliFault::Trace { code, number }),
+    })
 }
 
 // The words on a refused record, in memory.

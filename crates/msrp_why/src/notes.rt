@@ -178,6 +178,16 @@ impl Notes {
         })
     }
 
+    /// No notes, where none are kept.
+    pub fn none(alloc: Global) -> Notes {
+        Notes {
+            rows: 0,
+            last: None,
+            turns: TurnCounts::default(),
+            resources: Vec::new(alloc),
+        }
+    }
+
     // Whether the job holds or awaits a resource.
     fn is_inside(&self, job: JobId) -> bool
         ensures { result ≡ list_any (λ notes. is_user job notes.last notes.queue.items) self.now.resources.items }

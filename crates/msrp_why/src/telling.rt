@@ -31,6 +31,8 @@ pub struct Why<'a> {
     levels: &'a Levels<'a>,
     version: TextVersion,
     cause: &'a Cause,
+    // Whether the row is a record of a text.
+    is_record: bool,
     ghost same: { levels.now ≡ plan.now },
 }
 
@@ -48,6 +50,21 @@ impl<'a> Why<'a> {
             levels,
             version,
             cause,
+            is_record: true,
+        }
+    }
+
+    /// The same for a row that is no record of a text, and of which no notes and no state are
+    /// kept.
+    pub fn of_fed(plan: &'a Plan, levels: &'a Levels<'a>, cause: &'a Cause) -> Why<'a>
+        requires { levels.now ≡ plan.now }
+    {
+        Why {
+            plan,
+            levels,
+            version: TextVersion::V2,
+            cause,
+            is_record: false,
         }
     }
 
@@ -129,10 +146,14 @@ impl<'a> Why<'a> {
             Some(_) => self.write_job(f, "found", job)?,
             None => writeln!(f, "found: core {} idle", core.0)?,
         }
-        if let Some(state) = self.cause.state {
-            self.write_job(f, "running", state.running)?;
-            self.write_job(f, "head of the ready queue", state.head)?;
-            writeln!(f, "ceiling of core {}: {}", core.0, state.ceiling)?;
+        match (self.cause.state, self.cause.expected) {
+            (Some(state), _) => {
+                self.write_job(f, "running", state.running)?;
+                self.write_job(f, "head of the ready queue", state.head)?;
+                writeln!(f, "ceiling of core {}: {}", core.0, state.ceiling)?;
+            }
+            (None, Some(expected)) => self.write_job(f, "scheduled", expected.job)?,
+            (None, None) => {}
         }
         self.write_uses(f)
     }
@@ -256,9 +277,11 @@ impl fmt::Display for Why<'_> {
         let (cause, plan) = (self.cause, self.plan);
         let Fault { row, rule } = cause.fault;
         let tick = row.saturating_sub(1) / plan.cores();
-        let (record, line) = (u64::from(row) + 1, Line(cause.line));
-        let found = RowText(plan, self.version, cause.row);
-        writeln!(f, "row {row} (record {record}{line}): {found}")?;
+        write!(f, "row {row}")?;
+        if self.is_record {
+            write!(f, " (record {}{})", u64::from(row) + 1, Line(cause.line))?;
+        }
+        writeln!(f, ": {}", RowText(plan, self.version, cause.row))?;
         f.write_str(sentence(rule))?;
         if rule == Rule::A1 {
             self.write_misplaced(f, tick)?;
@@ -268,6 +291,28 @@ impl fmt::Display for Why<'_> {
             writeln!(f, "expected: {}", RowText(plan, self.version, expected))?;
         }
         self.write_facts(f, tick)
+    }
+}
+
+/// Why a row that was fed is refused, in words: the code and the number of the row, and what is
+/// wrong with it.
+#[derive(Clone, Copy)]
+pub struct RefusedRow {
+    /// The number after R of the code.
+    pub code: u32,
+    /// The number of the row, counted from 1.
+    pub number: u32,
+}
+
+impl fmt::Display for RefusedRow {
+    fn fmt<W: Write>(&self, f: &mut Formatter<W>) -> fmt::Result {
+        let RefusedRow { code, number } = *self;
+        let reason = match code {
+            4 => "unknown kind; must be 0 to 8",
+            5 => "the plan has no such task or resource",
+            _ => "a row of this kind has another job, resource or queue length",
+        };
+        writeln!(f, "row {number}: error R{code}: {reason}")
     }
 }
 
