@@ -4,9 +4,7 @@ use Rattle.msrp_plan.proofs.Common.{ℕ, Bool, true, List, [], None, Some, ap, s
 use Rattle.std.proofs.lemmas.List.{drop-map}
 use Rattle.csv.specs.Records.{Row, fields_of}
 use Rattle.msrp_text.specs.Reading.{record_at}
-use Rattle.msrp_advice.specs.Earlier.{last_place}
-use Rattle.msrp_advice.specs.Nested.{core_after, core_at}
-use Rattle.msrp_advice.specs.Records.{is_op, is_op_on, is_open}
+use Rattle.msrp_advice.specs.Records.{core_after, core_at, is_op, is_op_on, is_open, last_place}
 
 -- a record by its place
 pub record-is : (before : List Row) (i : ℕ) (row : Row) → i < length before → row ≡ slice_index_or before i row → fields_of row ≡ record_at (map fields_of before) i

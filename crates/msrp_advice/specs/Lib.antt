@@ -1,4 +1,2 @@
 pub mod Records
-pub mod Earlier
-pub mod Nested
 pub mod Warnings

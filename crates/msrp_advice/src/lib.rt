@@ -5,7 +5,6 @@
 //! warnings these are is proved; their sentences are tested.
 #![tactic(auto)]
 
-mod earlier;
 mod nested;
 mod reasons;
 mod records;
@@ -13,9 +12,8 @@ mod refused;
 mod shown;
 mod warnings;
 
-pub use earlier::earlier_record;
 pub use nested::{NestedLocks, nested_locks};
-pub use records::field;
+pub use records::{earlier_record, field};
 pub use refused::RefusedPlan;
 pub use shown::{Count, Shown, ShownRecord, res_name, task_name};
 pub use warnings::{AcceptedPlan, Warning, warnings_of};

@@ -2,8 +2,8 @@
 ghost use Rattle.std.specs.Prelude.{◌≡◌, ◌<◌, ◌≤◌};
 ghost use Rattle.msrp_plan.specs.Common.{length, map, true, IfSome};
 ghost use Rattle.csv.specs.Records.{fields_of};
-ghost use Rattle.msrp_advice.specs.Nested.{AreNested, IsShared};
-ghost use Rattle.msrp_advice.specs.Nested as spec;
+ghost use Rattle.msrp_advice.specs.Records.{AreNested, IsShared};
+ghost use Rattle.msrp_advice.specs.Records as spec;
 
 use crate::records::{is_op, is_op_on, is_open, is_same, is_task, number_told};
 use csv::ByteRecord;

@@ -3,9 +3,10 @@
 //! A reason is a sentence with holes: `{it}` stands for the field that is wrong, `{task}` for the
 //! name of the task that is read, and so on.
 
-use crate::earlier::earlier_record;
 use crate::nested::{NestedLocks, Users, nested_locks};
-use crate::records::{busiest_task, field, is_op, is_open, is_task, jobs_of, number_told};
+use crate::records::{
+    busiest_task, earlier_record, field, is_op, is_open, is_task, jobs_of, number_told,
+};
 use crate::refused::RefusedPlan;
 use crate::shown::{Count, Shown};
 use csv::ByteRecord;
@@ -231,15 +232,10 @@ impl<'a> RefusedPlan<'a> {
             return Ok(());
         };
         let (task, users) = (self.task_at(inner), Users::among(before));
-        let (name, cores) = (
-            shown(before.get(inner), 2),
-            users.of(before, before.get(inner)),
-        );
+        let (outer, inner) = (before.get(outer), before.get(inner));
+        let (name, cores) = (shown(inner, 2), users.of(before, inner));
         write!(f, ": task {task} locks {name} (used on cores {cores})")?;
-        let (name, cores) = (
-            shown(before.get(outer), 2),
-            users.of(before, before.get(outer)),
-        );
+        let (name, cores) = (shown(outer, 2), users.of(before, outer));
         write!(f, " while it holds {name} (used on cores {cores})")
     }
 

@@ -1,8 +1,7 @@
 //! What is said of a refused plan.
 
-use crate::earlier::earlier_record;
 use crate::nested::nested_locks;
-use crate::records::{busiest_task, field};
+use crate::records::{busiest_task, earlier_record, field};
 use crate::shown::{Shown, ShownRecord};
 use csv::ByteRecord;
 use msrp_plan::PlanFault;

@@ -1,5 +1,5 @@
 //! What is odd in an accepted plan.
-ghost use Rattle.std.specs.Prelude.{◌≡◌, ◌==◌, ◌<◌, ◌||◌, if◌then◌else◌};
+ghost use Rattle.std.specs.Prelude.{◌≡◌, ◌==◌, ◌<◌, if◌then◌else◌};
 ghost use Rattle.msrp_plan.specs.Common.{length, list_any, range_with_len, task_at, IfOk, OnOk};
 ghost use Rattle.msrp_advice.specs.Warnings.{core_units, has_deadline, units_of, is_odd};
 ghost use Rattle.std.specs.List.{AllPass};

@@ -5,8 +5,7 @@ use Rattle.std.specs.Prelude.{filter_map}
 use Rattle.msrp_plan.specs.declared.ids.JobId.{JobId}
 use Rattle.msrp_plan.specs.declared.ids.ResId.{ResId}
 use Rattle.msrp_plan.specs.declared.rows.Row.{Row}
-use Rattle.msrp_export.specs.Signals.{holder, holder_by, holder_with}
-use Rattle.msrp_export.specs.Summaries.{no_use, use_of, used}
+use Rattle.msrp_export.specs.Signals.{holder, holder_by, holder_with, no_use, use_of, used}
 use Rattle.msrp_export.specs.declared.summary.ResourceUse.{ResourceUse}
 
 -- ---- numbers that fit

@@ -2,9 +2,8 @@
 use Rattle.std.proofs.Common.{◌≡◌, ◌≢◌, ◌+◌, ◌-◌, ◌*◌, ◌<◌, ◌∷◌, ◌++◌, ◌≤◌, ◌^◌}
 use Rattle.msrp_plan.proofs.Common.{ℕ, List, [], sym, subst, arith, length, PlanModel, length-append, take-append-le, take_all}
 use Rattle.msrp_plan.specs.declared.rows.Row.{Row}
-use Rattle.msrp_export.specs.Ticks.{HasTaken, TellTick, rows_before, rows_in}
+use Rattle.msrp_export.specs.Signals.{HasTaken, Summarizes, TellTick, rows_before, rows_in}
 use Rattle.msrp_export.specs.declared.exporter.Exporter.{Exporter}
-use Rattle.msrp_export.specs.Summaries.{Summarizes}
 use Rattle.msrp_export.specs.declared.signals.Signals.{Signals}
 use Rattle.msrp_export.specs.declared.summary.Summary.{Summary}
 

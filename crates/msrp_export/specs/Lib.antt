@@ -1,3 +1,1 @@
 pub mod Signals
-pub mod Ticks
-pub mod Summaries

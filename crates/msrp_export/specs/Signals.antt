@@ -1,15 +1,23 @@
 -- What the rows of a trace say of a core, of a task and of a resource.
-use Rattle.std.specs.Prelude.{◌==◌, ◌&&◌, if◌then◌else◌, ◌/◌}
-use Rattle.msrp_plan.specs.Common.{ℕ, List, Bool, true, false, not, nat_lt, nat_le, Option, Some, None, fold, count_by, length, PlanModel, key, task_at, is_released, is_waiting, job_at, log_of, fifo, is_on, option_map}
+use Rattle.std.specs.Prelude.{◌==◌, ◌&&◌, if◌then◌else◌, ◌/◌, ◌≡◌, ◌<◌, ◌+◌, filter_map, ◌-◌, ◌*◌}
+use Rattle.msrp_plan.specs.Common.{ℕ, List, Bool, true, false, not, nat_lt, nat_le, Option, Some, None, fold, count_by, length, PlanModel, key, task_at, is_released, is_waiting, job_at, log_of, fifo, is_on, is_some, slice_index_or, most_cores, most_resources, most_tasks, is_release, is_release_of, is_request, requester, take, nat_eq, option_map, IsPlan}
 use Rattle.msrp_plan.specs.declared.ids.JobId.{JobId}
 use Rattle.msrp_plan.specs.declared.rows.Kind.{Kind}
 use Rattle.msrp_plan.specs.declared.rows.Kind.TheVariants.{Lock, Unlock, Take, Grant, Release}
 use Rattle.msrp_plan.specs.declared.rows.Row.{Row}
-use Rattle.msrp_export.specs.declared.signals.CoreAction.{CoreAction}
 use Rattle.msrp_export.specs.declared.signals.ResourceState.{ResourceState}
 use Rattle.msrp_export.specs.declared.tasks.TaskState.{TaskState}
 use Rattle.msrp_export.specs.declared.tasks.TaskState.TheVariants.{Unreleased, Ready, Running, Holding, Spinning}
 use Rattle.msrp_export.specs.declared.tasks.TaskStatus.{TaskStatus}
+use Rattle.msrp_export.specs.declared.summary.ResourceUse.{ResourceUse}
+use Rattle.msrp_export.specs.declared.summary.Summary.{Summary}
+use Rattle.msrp_export.specs.declared.summary.TaskCounts.{TaskCounts}
+use Rattle.msrp_export.specs.declared.exporter.Exporter.{Exporter}
+use Rattle.msrp_export.specs.declared.signals.Signals.{Signals}
+use Rattle.msrp_export.specs.declared.signals.State.{State}
+use Rattle.msrp_export.specs.declared.signals.State.TheVariants.{Core as CoreState, Resource as StateOfResource, Task as StateOfTask}
+use Rattle.msrp_export.specs.declared.signals.Track.{Track}
+use Rattle.msrp_export.specs.declared.signals.Track.TheVariants.{Core, Resource, Task}
 
 -- a row of these kinds gives its job a resource
 abbrev pub acquires : Kind → Bool
@@ -25,13 +33,9 @@ gives_up Release = true
 gives_up _ = false
 
 -- ---- cores
--- the last row of a core, if it has one
+-- the last row of a core, if it has one: what the core does
 abbrev pub last_row : ℕ → List Row → Option Row
 last_row c rows = fold (λ _ r. Some r) None (log_of c rows)
-
--- what a core does: what its last row says
-abbrev pub core_action : ℕ → List Row → Option CoreAction
-core_action c rows = option_map (λ r. record { kind = r.kind; job = r.job; resource = r.res }) (last_row c rows)
 
 -- ---- tasks
 -- the job is one of the task
@@ -99,3 +103,84 @@ holder g rows = fold (holder_with g) None rows
 -- the holder, and how many jobs are in the queue
 abbrev pub resource_state : ℕ → List Row → ResourceState
 resource_state g rows = record { holder = holder g rows; queue_length = length (fifo g rows) }
+
+-- ---- what is kept of rows in place of the rows
+-- of a task without rows
+abbrev pub no_counts : TaskCounts
+no_counts = record { work = 0; acquired = 0; given_up = 0 }
+
+-- of a resource without rows
+abbrev pub no_use : ResourceUse
+no_use = record { holder = None; requests = 0; releases = 0 }
+
+-- of a task
+abbrev pub counts_of : ℕ → List Row → TaskCounts
+counts_of t rows = record { work = work t rows; acquired = acquired t rows; given_up = given_up t rows }
+
+-- of a resource
+abbrev pub use_of : ℕ → List Row → ResourceUse
+use_of g rows = record { holder = holder g rows; requests = length (filter_map (requester g) rows); releases = count_by (is_release_of g) rows }
+
+-- with one more row of the task
+abbrev pub counted : Row → TaskCounts → TaskCounts
+counted r c = record {
+  work = c.work + (if not (is_waiting r.kind) then 1 else 0);
+  acquired = c.acquired + (if acquires r.kind then 1 else 0);
+  given_up = c.given_up + (if gives_up r.kind then 1 else 0);
+}
+
+-- with one more row on the resource
+abbrev pub used : Row → ResourceUse → ResourceUse
+used r u = record {
+  holder = holder_by u.holder r;
+  requests = u.requests + (if is_some r.job && is_request r.kind then 1 else 0);
+  releases = u.releases + (if is_release r.kind then 1 else 0);
+}
+
+-- the summary is that of these rows
+pub record Summarizes (s : Summary) (rows : List Row) : Type 0 where
+  pub last_rows : (c : ℕ) → c < most_cores → slice_index_or s.last_rows c None ≡ last_row c rows
+  pub tasks : (t : ℕ) → t < most_tasks → slice_index_or s.tasks t no_counts ≡ counts_of t rows
+  pub uses : (g : ℕ) → g < most_resources → slice_index_or s.uses g no_use ≡ use_of g rows
+
+-- ---- the states in a tick, which has one row of each core, and in the tick before
+-- the track is one of the plan
+abbrev pub IsTrack : PlanModel → Track → Type 0
+IsTrack plan (Core c) = c.0 < plan.cores
+IsTrack plan (Task t) = t.0 < length plan.tasks
+IsTrack plan (Resource g) = g.0 < length plan.resources
+
+-- the rows before a tick
+abbrev pub rows_before : PlanModel → List Row → ℕ → List Row
+rows_before plan rows tick = take (tick * plan.cores) rows
+
+-- the rows up to the end of a tick
+abbrev pub rows_in : PlanModel → List Row → ℕ → List Row
+rows_in plan rows tick = rows_before plan rows (tick + 1)
+
+-- the state on a track in a tick, by the rows before the tick and those up to its end
+abbrev pub state_of : PlanModel → List Row → List Row → ℕ → Track → Option State
+state_of plan before rows tick (Core c) = option_map CoreState (last_row c.0 rows)
+state_of plan before rows tick (Task t) = Some (StateOfTask (task_status plan before rows tick t.0))
+state_of plan before rows tick (Resource g) = Some (StateOfResource (resource_state g.0 rows))
+
+abbrev pub state_in : PlanModel → List Row → ℕ → Track → Option State
+state_in plan rows tick track = state_of plan (rows_before plan rows tick) (rows_in plan rows tick) tick track
+
+-- in the tick before, if there is one
+abbrev pub state_before : PlanModel → List Row → ℕ → Track → Option State
+state_before plan rows tick track = if nat_eq tick 0 then None else state_in plan rows (tick - 1) track
+
+-- what is kept is that of these rows: of those before the tick before, those before the tick, and
+-- those up to its end
+pub record TellTick (s : Signals) (rows : List Row) : Type 0 where
+  pub earlier : Summarizes s.earlier (rows_before s.plan.now rows (s.tick - 1))
+  pub before : Summarizes s.before (rows_before s.plan.now rows s.tick)
+  pub latest : Summarizes s.latest (rows_in s.plan.now rows s.tick)
+
+-- the exporter has taken these rows
+pub record HasTaken (e : Exporter) (rows : List Row) : Type 0 where
+  pub plan : IsPlan e.signals.plan.now
+  pub size : length rows ≡ e.signals.tick * e.signals.plan.now.cores + e.turns
+  pub turns : e.turns < e.signals.plan.now.cores
+  pub signals : TellTick e.signals rows

@@ -2,7 +2,7 @@
 ghost use Rattle.std.specs.Prelude.{◌≡◌, ◌<◌, ◌+◌, ◌++◌, ◌∷◌, ◌^◌};
 ghost use Rattle.msrp_plan.specs.Common.{[], List, length, WroteSome};
 ghost use Rattle.msrp_plan.specs.declared.rows.Row.{Row as TraceRow};
-ghost use Rattle.msrp_export.specs.Ticks.{HasTaken};
+ghost use Rattle.msrp_export.specs.Signals.{HasTaken};
 
 use crate::formats::Format;
 use crate::signals::Signals;

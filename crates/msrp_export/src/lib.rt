@@ -13,7 +13,6 @@ mod perfetto;
 mod signals;
 mod summary;
 mod tasks;
-mod tracks;
 mod vcd;
 mod walk;
 

@@ -2,12 +2,11 @@
 //! no escapes, since a plan's names have letters, digits and `_` only.
 
 use crate::names::{FaultyRow, JobName, resource_name, state_name, task_name};
-use crate::signals::{Change, CoreAction, State};
+use crate::signals::{Change, State, Track};
 use crate::tasks::{TaskState, TaskStatus};
-use crate::tracks::Track;
 use crate::walk::Written;
 use bstr::ByteSlice;
-use msrp_plan::{JobId, Kind, Plan, Row, Rule};
+use msrp_plan::{JobId, Kind, Plan, ResId, Row, Rule};
 use std::fmt::{Display, Write};
 
 /// What comes before the names of the tracks.
@@ -31,7 +30,7 @@ const VERDICT: &str =
 /// state with one job; those of a resource with one holder.
 #[derive(Clone, Copy, PartialEq, Eq)]
 enum Slice {
-    Action(CoreAction),
+    Action(Kind, Option<JobId>, Option<ResId>),
     State(TaskState, JobId),
     Holder(JobId),
 }
@@ -88,7 +87,7 @@ pub(crate) fn write_fault(
 // The slice of a state, if it has one.
 fn slice_of(state: Option<State>) -> Option<Slice> {
     match state? {
-        State::Core(action) if action.job.is_some() => Some(Slice::Action(action)),
+        State::Core(row) if row.job.is_some() => Some(Slice::Action(row.kind, row.job, row.res)),
         State::Task(status) if status.state != TaskState::Unreleased => {
             Some(Slice::State(status.state, status.job))
         }
@@ -134,9 +133,9 @@ fn begin_slice(text: &mut String, change: &Change<'_>, slice: Option<Slice>) -> 
     let plan = change.plan;
     begin_event_at(text, 'B', change.track, change.tick)?;
     match slice {
-        Slice::Action(action) => {
-            let (job, kind) = (JobName(plan, action.job), action.kind.word().as_bstr());
-            let resource = resource_name(plan, action.resource);
+        Slice::Action(kind, job, res) => {
+            let (job, kind) = (JobName(plan, job), kind.word().as_bstr());
+            let resource = resource_name(plan, res);
             write!(text, r#","name":"{job} {kind}","args":{{"job":"{job}","#)?;
             write!(text, r#""action":"{kind}","resource":"{resource}"}}}}"#)
         }

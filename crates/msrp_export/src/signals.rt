@@ -1,21 +1,49 @@
-//! The states of cores, tasks and resources in a tick and in the tick before.
-ghost use Rattle.std.specs.Prelude.{◌≡◌, ◌<◌, ◌+◌, ◌++◌, ◌∷◌, ◌^◌};
-ghost use Rattle.msrp_plan.specs.Common.{[], List, length, IsPlan};
+//! The tracks of cores, tasks and resources, and their states in a tick and in the tick before.
+ghost use Rattle.std.specs.Prelude.{◌≡◌, ◌<◌, ◌+◌, ◌^◌};
+ghost use Rattle.msrp_plan.specs.Common.{[], List, IfSome, IsPlan};
 ghost use Rattle.msrp_plan.specs.declared.rows.Row.{Row as TraceRow};
-ghost use Rattle.msrp_export.specs.Summaries.{Summarizes};
-ghost use Rattle.msrp_export.specs.Ticks.{IsTrack, TellTick, state_before, state_in, state_of};
+ghost use Rattle.msrp_export.specs.Signals.{IsTrack, Summarizes, TellTick, state_before, state_in, state_of};
 
 use crate::summary::{Summary, next};
 use crate::tasks::{TaskStatus, task_status};
-use crate::tracks::Track;
-use msrp_plan::{JobId, Kind, Plan, ResId};
+use msrp_plan::{CoreId, JobId, Plan, ResId, Row, TaskId};
 
-/// What a core does.
-#[derive(Clone, Copy, PartialEq, Eq)]
-pub(crate) struct CoreAction {
-    pub(crate) kind: Kind,
-    pub(crate) job: Option<JobId>,
-    pub(crate) resource: Option<ResId>,
+/// Whose track it is. Perfetto shows those of cores, of tasks and of resources as the threads of a process each.
+#[derive(Clone, Copy)]
+pub(crate) enum Track {
+    Core(CoreId),
+    Task(TaskId),
+    Resource(ResId),
+}
+
+impl Track {
+    pub(crate) fn number(self) -> u32 {
+        match self {
+            Track::Core(core) => core.0,
+            Track::Task(task) => task.0,
+            Track::Resource(resource) => resource.0,
+        }
+    }
+}
+
+/// How many tracks a plan has.
+pub(crate) fn track_count(plan: &Plan) -> u32 {
+    let many = plan.cores().saturating_add(plan.tasks());
+    many.saturating_add(plan.resources())
+}
+
+/// The track of this place: those of cores come first, then those of tasks.
+pub(crate) fn track_at(plan: &Plan, place: u32) -> Option<Track>
+    ensures plan { IsPlan plan.now }
+    ensures track { IfSome result (IsTrack plan.now) }
+{
+    let Some(task) = place.checked_sub(plan.cores()) else {
+        return Some(Track::Core(CoreId(place)));
+    };
+    let Some(res) = task.checked_sub(plan.tasks()) else {
+        return Some(Track::Task(TaskId(task)));
+    };
+    (res < plan.resources()).then_some(Track::Resource(ResId(res)))
 }
 
 /// Who holds a resource, and how many jobs are in its queue, the holder among them.
@@ -25,10 +53,10 @@ pub(crate) struct ResourceState {
     pub(crate) queue_length: u32,
 }
 
-/// What a core, a task or a resource does in a tick.
+/// What a core, a task or a resource does in a tick; a core does what its last row says.
 #[derive(Clone, Copy)]
 pub(crate) enum State {
-    Core(CoreAction),
+    Core(Row),
     Task(TaskStatus),
     Resource(ResourceState),
 }
@@ -46,7 +74,7 @@ fn state_of(
     ensures { (earlier rows : List TraceRow) → Summarizes before.now earlier → Summarizes latest.now rows → result ≡ state_of plan.now earlier rows tick track }
 {
     match track {
-        Track::Core(core) => latest.core_action(core).map(State::Core),
+        Track::Core(core) => latest.last_row(core).map(State::Core),
         Track::Task(task) => Some(State::Task(task_status(plan, before, latest, tick, task))),
         Track::Resource(resource) => Some(State::Resource(latest.resource_state(resource))),
     }

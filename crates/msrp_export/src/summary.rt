@@ -2,10 +2,9 @@
 ghost use Rattle.std.specs.Prelude.{◌≡◌, ◌<◌, ◌+◌, ◌++◌, ◌∷◌, ◌^◌};
 ghost use Rattle.msrp_plan.specs.Common.{ℕ, [], List, None, cond, length, slice_index_or, is_waiting, most_cores, most_resources, most_tasks};
 ghost use Rattle.msrp_plan.specs.declared.rows.Row.{Row as TraceRow};
-ghost use Rattle.msrp_export.specs.Signals.{acquires, core_action, gives_up, holder_by, last_row, resource_state};
-ghost use Rattle.msrp_export.specs.Summaries.{Summarizes, counts_of, counted, no_counts, no_use, use_of, used};
+ghost use Rattle.msrp_export.specs.Signals.{Summarizes, acquires, counted, counts_of, gives_up, holder_by, last_row, no_counts, no_use, resource_state, use_of, used};
 
-use crate::signals::{CoreAction, ResourceState};
+use crate::signals::ResourceState;
 use msrp_plan::limits::{MOST_CORES, MOST_RESOURCES, MOST_TASKS};
 use msrp_plan::{CoreId, JobId, Kind, ResId, Row, TaskId};
 
@@ -140,19 +139,6 @@ impl Summary {
         ensures { (rows : List TraceRow) → Summarizes self.now rows → result ≡ last_row core.0 rows }
     {
         self.last_rows[core.0 as usize]
-    }
-
-    /// What a core does, if it has a row.
-    pub(crate) fn core_action(&self, core: CoreId) -> Option<CoreAction>
-        requires { core.0 < most_cores }
-        ensures { (rows : List TraceRow) → Summarizes self.now rows → result ≡ core_action core.0 rows }
-    {
-        let row = self.last_row(core)?;
-        Some(CoreAction {
-            kind: row.kind,
-            job: row.job,
-            resource: row.res,
-        })
     }
 
     pub(crate) fn counts_of(&self, task: TaskId) -> TaskCounts

@@ -3,8 +3,7 @@
 //! GTKWave can draw it as a curve.
 
 use crate::names::{FaultyRow, JobName, resource_name, state_name, task_name};
-use crate::signals::{Change, State};
-use crate::tracks::Track;
+use crate::signals::{Change, State, Track};
 use crate::walk::Written;
 use bstr::ByteSlice;
 use msrp_plan::{Plan, Row, Rule};
@@ -63,8 +62,8 @@ pub(crate) fn write_change(text: &mut String, change: &Change<'_>) -> Written {
             if !matches!(before, Some(State::Core(last)) if last.job == now.job) {
                 writeln!(text, "s{} j{number}", JobName(plan, now.job))?;
             }
-            if !matches!(before, Some(State::Core(last)) if last.resource == now.resource) {
-                writeln!(text, "s{} g{number}", resource_name(plan, now.resource))?;
+            if !matches!(before, Some(State::Core(last)) if last.res == now.res) {
+                writeln!(text, "s{} g{number}", resource_name(plan, now.res))?;
             }
         }
         Some(State::Task(now)) => {

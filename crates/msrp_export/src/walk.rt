@@ -1,8 +1,8 @@
-//! One walk over all tracks for both formats: their names, what a tick changes, and the end of their slices.
+//! One walk over all tracks for both formats: their names, what a tick changes, and the end of their
+//! slices.
 
 use crate::formats::Format;
-use crate::signals::Signals;
-use crate::tracks::{track_at, track_count};
+use crate::signals::{Signals, track_at, track_count};
 use crate::{perfetto, vcd};
 use msrp_plan::Plan;
 use std::alloc::AllocError;

@@ -102,8 +102,6 @@ fn ticks_of(alloc: Global, lane: Lane, is_legal: bool, rows: &[Row]) -> Result<V
 pub(crate) fn push_rows(blocks: &mut Vec<Block>, scene: &Scene<'_>, lane: Lane) -> Added
     ensures { OnOk result (blocks.new.items ≡ blocks.old.items ++ row_blocks lane scene.now.rows.now scene.now.later.now) }
 {
-    let legal = ticks_of(scene.alloc, lane, true, scene.rows)?;
-    push_merged(blocks, &legal)?;
-    let later = ticks_of(scene.alloc, lane, false, scene.later)?;
-    push_merged(blocks, &later)
+    push_merged(blocks, &ticks_of(scene.alloc, lane, true, scene.rows)?)?;
+    push_merged(blocks, &ticks_of(scene.alloc, lane, false, scene.later)?)
 }

@@ -5,14 +5,12 @@ ghost use Rattle.msrp_picture.specs.Shapes.{AreShapes, AreShapesOf, blocks, core
 ghost use Rattle.msrp_picture.specs.Windows.{IsWindow, is_seen};
 
 use crate::blocks::push_rows;
-use crate::ceilings::{ceilings_of, push_ceilings};
 use crate::elements::svg;
 use crate::gathering::gathered;
+use crate::lanes::{ceilings_of, push_ceilings, push_queue, push_sections};
 use crate::lives::{Life, lives_of};
 use crate::plain::text;
-use crate::queues::push_queue;
 use crate::scene::Scene;
-use crate::sections::push_sections;
 use crate::shapes::{Block, Event, Lane, Look, Moment, Shapes, Violation};
 use crate::windows::{Asked, Style, Window, shown_window};
 use crate::{Added, Verdict};

@@ -1,26 +1,20 @@
 //! A picture in SVG (W3C, 2011): an element for each shape.
 
-use crate::Added;
 use crate::layout::{AXIS, LEFT, Layout, Room};
 use crate::scene::Scene;
 use crate::shapes::{Block, Event, Lane, Look, Shapes, Violation};
 use crate::words::{
-    moment_words, res_name, say_block, say_event, say_ticks, say_verdict, say_violation, task_name,
+    Written, moment_words, res_name, say_block, say_event, say_ticks, say_verdict, say_violation,
+    task_name,
 };
-use msrp_plan::{Kind, Memory, Op, Plan, TaskId};
+use msrp_plan::{Kind, Op, Plan, TaskId};
+use std::alloc::AllocError;
 use std::fmt::Display;
 
-// The least width of a picture, and that from which on the names of lanes are on both sides.
-const LEAST_WIDTH: u64 = 840;
-
+// In a wider picture the names of lanes are on both sides.
 const WIDE: u64 = 1500;
 
-// The room of a character of a label, with some to spare, and the least height of a labelled block.
-const CHARACTER: u64 = 7;
-
-const LABEL_HEIGHT: u64 = 12;
-
-// So many colours there are for resources, which tell the colour-blind apart too (Okabe and Ito 2008, lightened).
+// The colours of resources, which tell the colour-blind apart too (Okabe and Ito 2008, lightened).
 const COLOURS: [&str; 7] = ["r0", "r1", "r2", "r3", "r4", "r5", "r6"];
 
 const STYLE: &str =
@@ -59,7 +53,7 @@ fn class_of(block: &Block) -> &'static str {
     }
 }
 
-fn label_of(scene: &Scene<'_>, block: &Block) -> Result<String, Memory> {
+fn label_of(scene: &Scene<'_>, block: &Block) -> Result<String, AllocError> {
     let mut label = String::new(scene.alloc);
     let name = block.job.map_or("", |job| task_name(scene.plan, job.task));
     match (block.look, block.job, block.res) {
@@ -75,7 +69,7 @@ fn label_of(scene: &Scene<'_>, block: &Block) -> Result<String, Memory> {
 
 // The width of words, with some to spare.
 fn width_of(words: &str) -> u64 {
-    (words.len() as u64).saturating_mul(CHARACTER)
+    (words.len() as u64).saturating_mul(7)
 }
 
 fn baseline(room: Room) -> u64 {
@@ -98,7 +92,7 @@ fn depth_of(plan: &Plan, task: TaskId) -> u64 {
     most
 }
 
-fn left_out(scene: &Scene<'_>, layout: &Layout) -> Result<String, Memory> {
+fn left_out(scene: &Scene<'_>, layout: &Layout) -> Result<String, AllocError> {
     let mut names = String::new(scene.alloc);
     for task in 0..scene.plan.tasks() {
         if layout.room(Lane::Task(TaskId(task))).is_none() {
@@ -119,21 +113,18 @@ struct Canvas<'a> {
 }
 
 impl Canvas<'_> {
-    fn note<T: Display>(&mut self, class: &str, x: u64, y: u64, words: &T) -> Added {
+    fn note<T: Display>(&mut self, class: &str, x: u64, y: u64, words: &T) -> Written {
         write!(self.text, "<text class=\"{class}\" x=\"{x}\" y=\"{y}\">")?;
-        writeln!(self.text, "{words}</text>")?;
-        Ok(())
+        writeln!(self.text, "{words}</text>")
     }
 
-    fn rect(&mut self, x: u64, width: u64, room: Room) -> Added {
-        let Room { top, height } = room;
+    fn rect(&mut self, x: u64, width: u64, Room { top, height }: Room) -> Written {
         write!(self.text, "<rect x=\"{x}\" y=\"{top}\" ")?;
-        write!(self.text, "width=\"{width}\" height=\"{height}\"/>")?;
-        Ok(())
+        write!(self.text, "width=\"{width}\" height=\"{height}\"/>")
     }
 
-    // The place of a critical section in its lane: below those that it is in.
-    fn section(&mut self, section: &Block, task: TaskId) -> Result<Room, Memory> {
+    // The part of its lane that a critical section takes: below those that it is in.
+    fn section(&mut self, section: &Block, task: TaskId) -> Result<(u64, u64), AllocError> {
         if self.last != Some(section.lane) {
             self.last = Some(section.lane);
             self.ends.clear();
@@ -142,25 +133,21 @@ impl Canvas<'_> {
         let height = 32 / depth_of(self.scene.plan, task).max(1);
         let depth = self.ends.len() as u64;
         self.ends.push(section.end)?;
-        let top = depth.saturating_mul(height).saturating_add(18);
+        Ok((depth.saturating_mul(height).saturating_add(18), height))
+    }
+
+    fn room(&mut self, block: &Block, lane: Room) -> Result<Room, AllocError> {
+        let (below, height) = match (block.look, block.lane) {
+            (Look::Holds, Lane::Task(task)) => self.section(block, task)?,
+            (Look::Life(_), _) => (8, 2),
+            (Look::Late, _) => (50, 4),
+            _ => (0, lane.height),
+        };
+        let top = lane.top.saturating_add(below);
         Ok(Room { top, height })
     }
 
-    fn room(&mut self, block: &Block) -> Result<Option<Room>, Memory> {
-        let Some(room) = self.layout.room(block.lane) else {
-            return Ok(None);
-        };
-        let part = match (block.look, block.lane) {
-            (Look::Holds, Lane::Task(task)) => self.section(block, task)?,
-            (Look::Life(_), _) => Room { top: 8, height: 2 },
-            (Look::Late, _) => Room { top: 50, height: 4 },
-            _ => return Ok(Some(room)),
-        };
-        let (top, height) = (room.top.saturating_add(part.top), part.height);
-        Ok(Some(Room { top, height }))
-    }
-
-    fn block(&mut self, block: &Block, room: Room) -> Added {
+    fn block(&mut self, block: &Block, room: Room) -> Written {
         let x = self.layout.left_of(block.first);
         let width = self.layout.left_of(block.end).saturating_sub(x);
         let (class, label) = (class_of(block), label_of(self.scene, block)?);
@@ -169,45 +156,48 @@ impl Canvas<'_> {
         say_block(&mut self.text, self.scene, block)?;
         self.text.push_str("</title>")?;
         self.rect(x, width, room)?;
-        let has_room = width_of(&label).saturating_add(3) <= width && LABEL_HEIGHT <= room.height;
+        let has_room = width_of(&label).saturating_add(3) <= width && 12 <= room.height;
         if !label.is_empty() && has_room {
             let (x, y) = (x.saturating_add(3), baseline(room));
             write!(self.text, "<text x=\"{x}\" y=\"{y}\">{label}</text>")?;
         }
-        self.text.push_str("</g>\n")?;
-        Ok(())
+        self.text.push_str("</g>\n")
     }
 
-    fn blocks(&mut self, shapes: &Shapes) -> Added {
+    fn blocks(&mut self, shapes: &Shapes) -> Written {
         for block in &shapes.blocks {
-            if let Some(room) = self.room(block)? {
+            if let Some(lane) = self.layout.room(block.lane) {
+                let room = self.room(block, lane)?;
                 self.block(block, room)?;
             }
         }
         Ok(())
     }
 
-    fn events(&mut self, shapes: &Shapes) -> Added {
+    fn marks(&mut self, shapes: &Shapes) -> Written {
         for event in &shapes.events {
-            if let Some(room) = self.layout.room(Lane::Task(event.job.task)) {
-                self.event(event, room)?;
-            }
+            self.event(event)?;
         }
-        Ok(())
+        match &shapes.violation {
+            Some(violation) => self.violation(violation),
+            None => Ok(()),
+        }
     }
 
-    fn event(&mut self, event: &Event, room: Room) -> Added {
+    fn event(&mut self, event: &Event) -> Written {
+        let Some(room) = self.layout.room(Lane::Task(event.job.task)) else {
+            return Ok(());
+        };
         let (symbol, _) = moment_words(event.moment);
         let (x, y) = (self.layout.left_of(event.tick), room.top);
         write!(self.text, "<use href=\"#{symbol}\" x=\"{x}\" y=\"{y}\">")?;
         self.text.push_str("<title>")?;
         say_event(&mut self.text, self.scene, event)?;
-        self.text.push_str("</title></use>\n")?;
-        Ok(())
+        self.text.push_str("</title></use>\n")
     }
 
     // A frame round the row that violates a rule, and the rule's name above it.
-    fn violation(&mut self, violation: &Violation) -> Added {
+    fn violation(&mut self, violation: &Violation) -> Written {
         let row = violation.row;
         let of_core = Lane::Core(row.core);
         let lane = row.job.map_or(of_core, |job| Lane::Task(job.task));
@@ -227,7 +217,7 @@ impl Canvas<'_> {
     }
 
     // A lane's background and name; in a wide picture the name is on the right too.
-    fn name<T: Display>(&mut self, class: &str, left: &str, room: Room, name: &T) -> Added {
+    fn name<T: Display>(&mut self, class: &str, left: &str, room: Room, name: &T) -> Written {
         let (right, y) = (self.layout.right(), baseline(room));
         self.note(left, LEFT - 8, y, name)?;
         if right > WIDE {
@@ -235,11 +225,10 @@ impl Canvas<'_> {
         }
         self.text.push_str("<g class=\"lane\">")?;
         self.rect(LEFT, right.saturating_sub(LEFT), room)?;
-        self.text.push_str("</g>\n")?;
-        Ok(())
+        self.text.push_str("</g>\n")
     }
 
-    fn lane(&mut self, lane: Lane, room: Room) -> Added {
+    fn lane(&mut self, lane: Lane, room: Room) -> Written {
         let plan = self.scene.plan;
         match lane {
             Lane::Core(core) => {
@@ -257,7 +246,7 @@ impl Canvas<'_> {
     }
 
     // The preemption level of a task, below its name.
-    fn level(&mut self, task: TaskId, room: Room) -> Added {
+    fn level(&mut self, task: TaskId, room: Room) -> Written {
         if task.0 < self.scene.plan.tasks() {
             let level = self.scene.levels.level(task);
             let (y, level) = (room.top.saturating_add(28), format_args!("level {level}"));
@@ -267,7 +256,7 @@ impl Canvas<'_> {
     }
 
     // The numbers of ticks: of each fifth, or where ticks are narrow of each tenth.
-    fn axis(&mut self, y: u64) -> Added {
+    fn axis(&mut self, y: u64) -> Written {
         let each = if self.layout.tick_width < 8 { 10 } else { 5 };
         self.note("level name", LEFT - 16, y, &"time (ticks)")?;
         for tick in self.scene.window.from..self.scene.window.to {
@@ -278,26 +267,18 @@ impl Canvas<'_> {
         Ok(())
     }
 
-    fn lanes(&mut self) -> Added {
-        for (lane, room) in &self.layout.lanes {
-            self.lane(*lane, *room)?;
-        }
-        Ok(())
-    }
-
     // The size of the picture, its style and legend.
-    fn head(&mut self, width: u64) -> Added {
+    fn head(&mut self, width: u64) -> Written {
         let height = self.layout.bottom.saturating_add(10);
         write!(self.text, "<svg xmlns=\"http://www.w3.org/2000/svg\" ")?;
         write!(self.text, "width=\"{width}\" height=\"{height}\" ")?;
         writeln!(self.text, "viewBox=\"0 0 {width} {height}\">")?;
         self.text.push_str(STYLE)?;
-        self.text.push_str(LEGEND)?;
-        Ok(())
+        self.text.push_str(LEGEND)
     }
 
     // The verdict, what violates a rule, and which ticks are drawn.
-    fn caption(&mut self, shapes: &Shapes) -> Added {
+    fn caption(&mut self, shapes: &Shapes) -> Written {
         let (scene, alloc) = (self.scene, self.scene.alloc);
         let (mut verdict, mut ticks) = (String::new(alloc), String::new(alloc));
         say_verdict(&mut verdict, scene.found)?;
@@ -313,27 +294,26 @@ impl Canvas<'_> {
 }
 
 /// A picture in SVG.
-pub(crate) fn svg(scene: &Scene<'_>, shapes: &Shapes) -> Result<String, Memory> {
+pub(crate) fn svg(scene: &Scene<'_>, shapes: &Shapes) -> Result<String, AllocError> {
     let layout = &Layout::of(scene, shapes)?;
     let (right, without) = (layout.right(), left_out(scene, layout)?);
     let width = right.saturating_add(if right > WIDE { LEFT } else { 20 });
     let names = width_of(&without).saturating_add(240);
-    let (text, last, ends) = (String::new(scene.alloc), None, Vec::new(scene.alloc));
+    let text = String::new(scene.alloc);
     let mut canvas = Canvas {
         scene,
         layout,
         text,
-        last,
-        ends,
+        last: None,
+        ends: Vec::new(scene.alloc),
     };
-    canvas.head(width.max(LEAST_WIDTH).max(names))?;
+    canvas.head(width.max(840).max(names))?;
     canvas.caption(shapes)?;
-    canvas.lanes()?;
-    canvas.blocks(shapes)?;
-    canvas.events(shapes)?;
-    if let Some(violation) = &shapes.violation {
-        canvas.violation(violation)?;
+    for (lane, room) in &layout.lanes {
+        canvas.lane(*lane, *room)?;
     }
+    canvas.blocks(shapes)?;
+    canvas.marks(shapes)?;
     if !without.is_empty() {
         let words = format_args!("without a job in these ticks:{without}");
         canvas.note("level", 20, layout.bottom, &words)?;

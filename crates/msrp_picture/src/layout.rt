@@ -1,17 +1,15 @@
 //! Where shapes are drawn in SVG, in its units: for each core a lane for who runs, one for its ceiling, and one for each
 //! of its tasks; below all cores a lane for each global resource. Tasks and resources without a shape are left out.
 
-use crate::Added;
 use crate::scene::Scene;
 use crate::shapes::{Event, Lane, Shapes};
 use crate::windows::Window;
-use msrp_plan::{CoreId, Memory, Plan, ResId, TaskId};
+use crate::words::Written;
+use msrp_plan::{CoreId, Plan, ResId, TaskId};
+use std::alloc::AllocError;
 
 /// Where the lanes begin, from the left.
 pub(crate) const LEFT: u64 = 160;
-
-// Where the first core begins, from above: the caption and the legend are there.
-const TOP: u64 = 104;
 
 /// The height of the axis above the first lane of a core.
 pub(crate) const AXIS: u64 = 24;
@@ -47,12 +45,13 @@ fn tick_width(window: Window) -> u64 {
 }
 
 impl Layout {
-    pub(crate) fn of(scene: &Scene<'_>, shapes: &Shapes) -> Result<Layout, Memory> {
+    pub(crate) fn of(scene: &Scene<'_>, shapes: &Shapes) -> Result<Layout, AllocError> {
         let mut layout = Layout {
             window: scene.window,
             tick_width: tick_width(scene.window),
             lanes: Vec::new(scene.alloc),
-            bottom: TOP,
+            // The caption and the legend are above.
+            bottom: 104,
         };
         for core in 0..scene.plan.cores() {
             layout.bottom = layout.bottom.saturating_add(AXIS);
@@ -66,14 +65,14 @@ impl Layout {
     }
 
     // Adds a lane of this height, and room below it.
-    fn add(&mut self, lane: Lane, height: u64, below: u64) -> Added {
+    fn add(&mut self, lane: Lane, height: u64, below: u64) -> Written {
         let top = self.bottom;
         self.lanes.push((lane, Room { top, height }))?;
         self.bottom = top.saturating_add(height).saturating_add(below);
         Ok(())
     }
 
-    fn add_tasks(&mut self, plan: &Plan, shapes: &Shapes, core: CoreId) -> Added {
+    fn add_tasks(&mut self, plan: &Plan, shapes: &Shapes, core: CoreId) -> Written {
         for task in 0..plan.tasks() {
             let lane = Lane::Task(TaskId(task));
             if plan.core_of(TaskId(task)) == core && is_shown(shapes, lane) {
@@ -83,7 +82,7 @@ impl Layout {
         Ok(())
     }
 
-    fn add_queues(&mut self, plan: &Plan, shapes: &Shapes) -> Added {
+    fn add_queues(&mut self, plan: &Plan, shapes: &Shapes) -> Written {
         for res in 0..plan.resources() {
             let lane = Lane::Queue(ResId(res));
             if is_shown(shapes, lane) {
@@ -95,8 +94,10 @@ impl Layout {
 
     /// The place of a lane, if it is drawn.
     pub(crate) fn room(&self, lane: Lane) -> Option<Room> {
-        let place = self.lanes.iter().find(|place| place.0 == lane)?;
-        Some(place.1)
+        self.lanes
+            .iter()
+            .find(|place| place.0 == lane)
+            .map(|place| place.1)
     }
 
     /// Where a tick begins, or the next edge of the lanes where it isn't drawn.

@@ -5,17 +5,15 @@
 #![tactic(auto)]
 
 mod blocks;
-mod ceilings;
 mod drawing;
 mod elements;
 mod gathering;
+mod lanes;
 pub mod laws;
 mod layout;
 mod lives;
 mod plain;
-mod queues;
 mod scene;
-mod sections;
 mod shapes;
 mod windows;
 mod words;

@@ -1,12 +1,11 @@
 //! A picture in plain text: a line for each core and global resource, with a cell for each tick.
 
-use crate::Added;
 use crate::scene::Scene;
 use crate::shapes::{Block, Lane, Look, Moment, Shapes, Violation};
 use crate::windows::Window;
-use crate::words::{res_name, say_ticks, say_verdict};
-use msrp_plan::{CoreId, Kind, Memory, Plan, ResId, Row, TaskId};
-use std::alloc::Global;
+use crate::words::{Written, res_name, say_ticks, say_verdict};
+use msrp_plan::{CoreId, Kind, Plan, ResId, Row, TaskId};
+use std::alloc::{AllocError, Global};
 use std::fmt::Display;
 
 // So many ticks are on a line: with its label that is less than 80 columns.
@@ -116,7 +115,7 @@ fn fault_sign(shown: Shown, row: Row) -> Option<u8> {
 
 impl Lines<'_> {
     // Cells with a dot for each tick before this one.
-    fn dots(&self, end: u64) -> Result<Vec<u8>, Memory> {
+    fn dots(&self, end: u64) -> Result<Vec<u8>, AllocError> {
         let window = self.scene.window;
         let mut cells = vec![in self.scene.alloc; b' '; window.ticks() as usize]?;
         paint(&mut cells, window, 0, end, b'.');
@@ -139,7 +138,7 @@ impl Lines<'_> {
     }
 
     // Adds a line with dots for the ticks before this one.
-    fn add<T: Display>(&mut self, label: &T, shown: Shown, end: u64) -> Added {
+    fn add<T: Display>(&mut self, label: &T, shown: Shown, end: u64) -> Written {
         let mut cells = self.dots(end)?;
         self.paint_blocks(&mut cells, shown);
         if let Some(Violation { row, .. }) = self.shapes.violation
@@ -153,7 +152,7 @@ impl Lines<'_> {
         Ok(())
     }
 
-    fn add_events(&mut self, core: CoreId) -> Added {
+    fn add_events(&mut self, core: CoreId) -> Written {
         let (scene, window) = (self.scene, self.scene.window);
         let mut cells = self.dots(window.to as u64)?;
         for event in &self.shapes.events {
@@ -170,7 +169,7 @@ impl Lines<'_> {
     }
 
     // Adds who runs on a core, what is done, a mark below a row that violates a rule, and the events.
-    fn add_core(&mut self, core: CoreId) -> Added {
+    fn add_core(&mut self, core: CoreId) -> Written {
         let of_core = self.scene.rows.iter().filter(|row| row.core == core);
         let ticks = of_core.count() as u64;
         self.add(&format_args!("core {}", core.0), Shown::Jobs(core), ticks)?;
@@ -185,7 +184,7 @@ impl Lines<'_> {
     }
 
     // Adds who is first in the queue of each global resource, and how many wait.
-    fn add_queues(&mut self) -> Added {
+    fn add_queues(&mut self) -> Written {
         let (scene, ticks) = (self.scene, self.scene.ticks_begun());
         for res in 0..scene.plan.resources() {
             if scene.levels.is_global(ResId(res)) {
@@ -198,7 +197,7 @@ impl Lines<'_> {
     }
 
     // Writes the axis of a part, and what it shows of each line.
-    fn write_part(&self, text: &mut String, part: u32) -> Added {
+    fn write_part(&self, text: &mut String, part: u32) -> Written {
         let (scene, cell) = (self.scene, part.saturating_mul(LINE_TICKS));
         let first = scene.window.from.saturating_add(cell);
         let end = scene.window.to.min(first.saturating_add(LINE_TICKS));
@@ -215,7 +214,7 @@ impl Lines<'_> {
 }
 
 // The number of each tenth tick where it begins, and signs between them.
-fn axis(alloc: Global, from: u32, to: u32) -> Result<String, Memory> {
+fn axis(alloc: Global, from: u32, to: u32) -> Result<String, AllocError> {
     let mut axis = String::new(alloc);
     for tick in from..to {
         match tick % 10 {
@@ -228,7 +227,7 @@ fn axis(alloc: Global, from: u32, to: u32) -> Result<String, Memory> {
     Ok(axis)
 }
 
-fn write_tasks(text: &mut String, plan: &Plan) -> Added {
+fn write_tasks(text: &mut String, plan: &Plan) -> Written {
     for task in 0..plan.tasks() {
         let (task, name) = (TaskId(task), plan.task_name(TaskId(task)));
         let (letter, core) = (letter(task) as char, plan.core_of(task).0);
@@ -237,12 +236,11 @@ fn write_tasks(text: &mut String, plan: &Plan) -> Added {
     Ok(())
 }
 
-fn lines_of<'a>(scene: &'a Scene<'a>, shapes: &'a Shapes) -> Result<Lines<'a>, Memory> {
-    let lines = Vec::new(scene.alloc);
+fn lines_of<'a>(scene: &'a Scene<'a>, shapes: &'a Shapes) -> Result<Lines<'a>, AllocError> {
     let mut lines = Lines {
         scene,
         shapes,
-        lines,
+        lines: Vec::new(scene.alloc),
     };
     for core in 0..scene.plan.cores() {
         lines.add_core(CoreId(core))?;
@@ -252,7 +250,7 @@ fn lines_of<'a>(scene: &'a Scene<'a>, shapes: &'a Shapes) -> Result<Lines<'a>, M
 }
 
 /// A picture in plain text.
-pub(crate) fn text(scene: &Scene<'_>, shapes: &Shapes) -> Result<String, Memory> {
+pub(crate) fn text(scene: &Scene<'_>, shapes: &Shapes) -> Result<String, AllocError> {
     let (lines, mut text) = (lines_of(scene, shapes)?, String::new(scene.alloc));
     say_verdict(&mut text, scene.found)?;
     text.push_str("\n")?;

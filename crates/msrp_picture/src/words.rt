@@ -1,10 +1,14 @@
 //! What a picture says: names, the verdict, and a sentence for each block, event and violation.
 
+use crate::Verdict;
 use crate::scene::Scene;
 use crate::shapes::{Block, Event, Look, Moment, Violation};
 use crate::windows::expected_tick;
-use crate::{Added, Verdict};
-use msrp_plan::{JobId, Kind, Memory, Plan, ResId, TaskId};
+use msrp_plan::{JobId, Kind, Plan, ResId, TaskId};
+use std::alloc::AllocError;
+
+/// What a function of text answers: an error where no memory is left for the text.
+pub(crate) type Written = Result<(), AllocError>;
 
 /// The name of a task; nothing where the plan has no such task.
 pub(crate) fn task_name(plan: &Plan, task: TaskId) -> &str {
@@ -24,12 +28,12 @@ pub(crate) fn res_name(plan: &Plan, res: ResId) -> &str {
     }
 }
 
-fn job_words(scene: &Scene<'_>, job: Option<JobId>) -> Result<String, Memory> {
+fn job_words(scene: &Scene<'_>, job: Option<JobId>) -> Result<String, AllocError> {
     let Some(job) = job else {
-        return Ok(format!(in scene.alloc; "no job")?);
+        return format!(in scene.alloc; "no job");
     };
     let task = task_name(scene.plan, job.task);
-    Ok(format!(in scene.alloc; "job {} of {task}", job.k)?)
+    format!(in scene.alloc; "job {} of {task}", job.k)
 }
 
 fn deed(kind: Kind) -> &'static str {
@@ -46,16 +50,15 @@ fn deed(kind: Kind) -> &'static str {
 }
 
 /// Writes the record of a verdict.
-pub(crate) fn say_verdict(text: &mut String, found: Verdict) -> Added {
+pub(crate) fn say_verdict(text: &mut String, found: Verdict) -> Written {
     match found {
-        Ok(()) => text.push_str("good")?,
-        Err(fault) => write!(text, "fault,{},{:?}", fault.row, fault.rule)?,
+        Ok(()) => text.push_str("good"),
+        Err(fault) => write!(text, "fault,{},{:?}", fault.row, fault.rule),
     }
-    Ok(())
 }
 
 /// Writes which of the plan's ticks are drawn, and in which one the fault is.
-pub(crate) fn say_ticks(text: &mut String, scene: &Scene<'_>) -> Added {
+pub(crate) fn say_ticks(text: &mut String, scene: &Scene<'_>) -> Written {
     let (first, all) = (scene.window.from, scene.plan.ticks());
     let last = scene.window.to.saturating_sub(1);
     write!(text, "ticks {first} to {last} of {all}")?;
@@ -67,7 +70,7 @@ pub(crate) fn say_ticks(text: &mut String, scene: &Scene<'_>) -> Added {
 }
 
 /// Writes what a block shows.
-pub(crate) fn say_block(text: &mut String, scene: &Scene<'_>, block: &Block) -> Added {
+pub(crate) fn say_block(text: &mut String, scene: &Scene<'_>, block: &Block) -> Written {
     let (first, last) = (block.first, block.end.saturating_sub(1));
     if first < last {
         write!(text, "ticks {first} to {last}: ")?;
@@ -90,11 +93,11 @@ pub(crate) fn say_block(text: &mut String, scene: &Scene<'_>, block: &Block) -> 
 }
 
 // Writes the name of a resource after a blank, if there is one.
-fn say_res(text: &mut String, scene: &Scene<'_>, res: Option<ResId>) -> Added {
-    if let Some(res) = res {
-        write!(text, " {}", res_name(scene.plan, res))?;
+fn say_res(text: &mut String, scene: &Scene<'_>, res: Option<ResId>) -> Written {
+    match res {
+        Some(res) => write!(text, " {}", res_name(scene.plan, res)),
+        None => Ok(()),
     }
-    Ok(())
 }
 
 /// The symbol of a moment, and its words.
@@ -107,19 +110,21 @@ pub(crate) fn moment_words(moment: Moment) -> (&'static str, &'static str) {
 }
 
 /// Writes what an event is.
-pub(crate) fn say_event(text: &mut String, scene: &Scene<'_>, event: &Event) -> Added {
+pub(crate) fn say_event(text: &mut String, scene: &Scene<'_>, event: &Event) -> Written {
     let (_, moment) = moment_words(event.moment);
     let (tick, who) = (event.tick, job_words(scene, Some(event.job))?);
-    write!(text, "at {tick}: {moment} of {who}")?;
-    Ok(())
+    write!(text, "at {tick}: {moment} of {who}")
 }
 
 /// Writes what is wrong with the first row that violates a rule.
-pub(crate) fn say_violation(text: &mut String, scene: &Scene<'_>, violation: &Violation) -> Added {
+pub(crate) fn say_violation(
+    text: &mut String,
+    scene: &Scene<'_>,
+    violation: &Violation,
+) -> Written {
     let (row, rule) = (violation.row, violation.rule);
     let (who, deed) = (job_words(scene, row.job)?, deed(row.kind));
     write!(text, "tick {}, core {}: {who} {deed}", row.tick, row.core.0)?;
     say_res(text, scene, row.res)?;
-    write!(text, ", which violates rule {rule:?}")?;
-    Ok(())
+    write!(text, ", which violates rule {rule:?}")
 }

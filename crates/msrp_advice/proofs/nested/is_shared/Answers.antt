@@ -2,8 +2,7 @@ use Rattle.std.proofs.Common.{◌∙◌}
 use Rattle.msrp_plan.proofs.Common.{ap, codes, map, not_equal, sym}
 use Rattle.csv.specs.Records.{fields_of}
 use Rattle.msrp_text.specs.Reading.{record_at}
-use Rattle.msrp_advice.specs.Nested.{core_at}
-use Rattle.msrp_advice.specs.Records.{is_op_on}
+use Rattle.msrp_advice.specs.Records.{core_at, is_op_on}
 use Rattle.msrp_advice.proofs.Places.{core-more, core-none, record-is}
 use Rattle.msrp_advice.proofs.nested.is_shared.Goals as goal
 

@@ -3,8 +3,7 @@ use Rattle.msrp_plan.proofs.Common.{ℕ, List, Option, PlanModel, ap, cond, nat_
 use Rattle.msrp_plan.specs.declared.ids.JobId.{JobId}
 use Rattle.msrp_plan.specs.declared.ids.TaskId.{TaskId}
 use Rattle.msrp_plan.specs.declared.rows.Row.{Row}
-use Rattle.msrp_export.specs.Signals.{task_status, job_after, row_in, last_row, released_state, work}
-use Rattle.msrp_export.specs.Summaries.{counts_of}
+use Rattle.msrp_export.specs.Signals.{counts_of, job_after, last_row, released_state, row_in, task_status, work}
 use Rattle.msrp_export.specs.declared.summary.TaskCounts.{TaskCounts}
 use Rattle.msrp_export.specs.declared.tasks.TaskState.TheVariants.{Unreleased}
 use Rattle.msrp_export.proofs.tasks.task_status.Goals as goal

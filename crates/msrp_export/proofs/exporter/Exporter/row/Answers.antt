@@ -1,7 +1,7 @@
 use Rattle.std.proofs.Common.{◌≡◌, ◌+◌, ◌++◌, ◌∷◌, ◌∙◌}
 use Rattle.msrp_plan.proofs.Common.{[], sym, subst, arith}
 use Rattle.msrp_export.proofs.Exporting.{ended, went, all_told}
-use Rattle.msrp_export.specs.Ticks.{HasTaken}
+use Rattle.msrp_export.specs.Signals.{HasTaken}
 use Rattle.msrp_export.specs.declared.exporter.Exporter.{Exporter}
 use Rattle.msrp_export.proofs.exporter.Exporter.row.Goals as goal
 

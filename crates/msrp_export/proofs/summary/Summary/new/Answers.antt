@@ -1,6 +1,6 @@
 use Rattle.msrp_plan.proofs.Common.{None, get_or-replicate}
 use Rattle.msrp_plan.specs.Limits.{most_cores, most_resources, most_tasks}
-use Rattle.msrp_export.specs.Summaries.{no_counts, no_use}
+use Rattle.msrp_export.specs.Signals.{no_counts, no_use}
 use Rattle.msrp_export.proofs.summary.Summary.new.Goals as goal
 
 pub returns : goal.returns

@@ -3,7 +3,7 @@ use Rattle.msrp_plan.proofs.Common.{ℕ, List, None, Option, PlanModel, Some, []
 use Rattle.msrp_audit.specs.Audits.{HasFed}
 use Rattle.msrp_picture.specs.Types.{Row}
 use Rattle.msrp_picture.specs.Lanes.{ceiling_after, ceilings}
-use Rattle.msrp_picture.proofs.ceilings.ceilings_of.Goals as goal
+use Rattle.msrp_picture.proofs.lanes.ceilings_of.Goals as goal
 
 -- one row more
 one-more : (plan : PlanModel) (pre rest : List Row) (r : Row) (all : List (Row × ℕ)) → (all ++ cons_option (ceiling_after plan (pre ++ r ∷ []) r) []) ++ ceilings plan (pre ++ r ∷ []) rest ≡ all ++ ceilings plan pre (r ∷ rest)

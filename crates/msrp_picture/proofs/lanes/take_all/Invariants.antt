@@ -2,7 +2,7 @@ use Rattle.std.proofs.Common.{◌++◌}
 use Rattle.msrp_plan.proofs.Common.{ℕ, List, take}
 use Rattle.msrp_plan.specs.Requests.{HasTaken}
 use Rattle.msrp_picture.specs.Types.{Row}
-use Rattle.msrp_picture.proofs.queues.take_all.Given as goal
+use Rattle.msrp_picture.proofs.lanes.take_all.Given as goal
 
 abbrev pub invariant-loop-row : goal.invariant-loop-row
 invariant-loop-row l = (g : ℕ) (before : List Row) → HasTaken l.fn.requests g before → HasTaken l.requests g (before ++ take l.row-index l.rows)

@@ -8,7 +8,7 @@ use Rattle.msrp_plan.specs.declared.faults.Rule.TheVariants.{A1, A7}
 use Rattle.msrp_audit.specs.Audits.{answer_of}
 use Rattle.msrp_core.specs.CoreStates.{IsCoreState}
 use Rattle.msrp_picture.specs.Types.{Row}
-use Rattle.msrp_picture.proofs.ceilings.push_ceiling.Goals as goal
+use Rattle.msrp_picture.proofs.lanes.push_ceiling.Goals as goal
 
 -- a row that isn't refused is one of a core
 in-turn : (o : Option Fault) (more turn : Bool) (rest : Option Rule) (n : ℕ) → option_or o (fault_or (cond more (cond turn rest (Some A1)) (Some A7)) n None) ≡ None → turn ≡ true

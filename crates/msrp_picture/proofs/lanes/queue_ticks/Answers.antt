@@ -7,7 +7,7 @@ use Rattle.msrp_picture.specs.Types.{PlanModel, Row}
 use Rattle.msrp_picture.specs.Lanes.{first_of}
 use Rattle.msrp_picture.specs.Rows.{rows_in}
 use Rattle.msrp_picture.proofs.Growing.{grows-each}
-use Rattle.msrp_picture.proofs.queues.ticks_of.Goals as goal
+use Rattle.msrp_picture.proofs.lanes.queue_ticks.Goals as goal
 
 split-rows : (rows : List Row) (m n : ℕ) → m ≤ n → take m rows ++ slice_range rows m n ≡ take n rows
 split-rows rows m n l =

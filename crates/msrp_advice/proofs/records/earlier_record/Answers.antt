@@ -1,10 +1,10 @@
 use Rattle.std.proofs.Common.{◌∙◌}
 use Rattle.msrp_plan.proofs.Common.{false, map, sym, true}
 use Rattle.csv.specs.Records.{fields_of}
-use Rattle.msrp_advice.specs.Earlier.{is_sought}
-use Rattle.msrp_advice.proofs.earlier.earlier_record.Goals.{then-is_sought, else-is_sought}
+use Rattle.msrp_advice.specs.Records.{is_sought}
+use Rattle.msrp_advice.proofs.records.earlier_record.Goals.{then-is_sought, else-is_sought}
 use Rattle.msrp_advice.proofs.Places.{last-more, last-none}
-use Rattle.msrp_advice.proofs.earlier.earlier_record.Goals as goal
+use Rattle.msrp_advice.proofs.records.earlier_record.Goals as goal
 
 pub loop-i-init : goal.loop-i-init
 loop-i-init c = last-none (is_sought c.args.fault (map fields_of c.args.before.now) (fields_of c.args.row.now))
