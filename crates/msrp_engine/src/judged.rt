@@ -61,6 +61,8 @@ pub struct JudgedRows<'p, 't, T> {
     texts: RowTexts<'p>,
     // What decided before the last row who had its core's turn, if that was asked.
     state: Option<CoreState>,
+    // The last answer that was read field by field. A local in its place would be zeroed for each row.
+    judged: Result<Judgement, TraceError>,
     ghost plan: { rows.plan.now ≡ auditor.plan },
     ghost texts_plan: { texts.plan ≡ auditor.plan },
     ghost version: { texts.version ≡ rows.version },
@@ -107,6 +109,7 @@ impl<'p, 't, T: Read> JudgedRows<'p, 't, T> {
             lasts: [None; MOST_CORES as usize],
             texts,
             state: None,
+            judged: Ok(Judgement::End),
         }
     }
 
@@ -220,7 +223,6 @@ impl<'p, 't, T: Read> JudgedRows<'p, 't, T> {
 
     // The next row, read field by field. Its text begins with that tick and that core, of which a
     // row is expected.
-    #[inline(never)]
     fn read_expected(&mut self, tick: u32, core: CoreId) -> Result<Judgement, TraceError>
         requires core { core.0 < self.old.auditor.plan.cores }
         requires kept { IsSomeAnd (row_of_core self.old.lasts core.0) (λ last. last.core.0 ≡ core.0) }
@@ -241,8 +243,24 @@ impl<'p, 't, T: Read> JudgedRows<'p, 't, T> {
         }
     }
 
-    // The next row, read field by field.
+    // The same, where the answer is kept.
     #[inline(never)]
+    fn keep_expected(&mut self, tick: u32, core: CoreId)
+        requires core { core.0 < self.old.auditor.plan.cores }
+        requires kept { IsSomeAnd (row_of_core self.old.lasts core.0) (λ last. last.core.0 ≡ core.0) }
+        requires left { self.old.auditor.fed < self.old.auditor.plan.cores * self.old.auditor.plan.ticks }
+        ensures plan { self.new.auditor.plan ≡ self.old.auditor.plan }
+        ensures gives { (told : Told) → rows_left T.remaining self.old ≡ Some told → GivesNext told (row_told self.new.judged) (rows_left T.remaining self.new) }
+        ensures judged { (rows : List TraceRow) → IfSome (row_of_core self.old.lasts core.0) (λ last. Awaits self.old.auditor rows core.0 (in_tick tick last)) → IsJudged self.old.auditor.plan rows self.new.judged self.new }
+        ensures lines { (text : List ℕ) → HasReadIn T.remaining text self.old.rows → HasReadBehind T.remaining text (row_told self.new.judged) self.new.rows }
+        ensures core { IfCame (λ row. row.core.0 ≡ core.0) self.new.judged }
+        ensures state { self.new.state ≡ self.old.state }
+        ensures read { (told : Told) → rows_left T.remaining self.old ≡ Some told → BeginsAt tick core told → self.new.judged ≡ Err TraceError.Read → source_failed (source_of self.new.rows) ≡ true }
+    {
+        self.judged = self.read_expected(tick, core);
+    }
+
+    // The next row, read field by field.
     fn read(&mut self, asked: bool) -> Result<Judgement, TraceError>
         requires { IsPlan self.old.auditor.plan }
         ensures plan { self.new.auditor.plan ≡ self.old.auditor.plan }
@@ -271,6 +289,20 @@ impl<'p, 't, T: Read> JudgedRows<'p, 't, T> {
         Ok(self.judge(expected, row))
     }
 
+    // The same, where the answer is kept.
+    #[inline(never)]
+    fn keep_read(&mut self, asked: bool)
+        requires { IsPlan self.old.auditor.plan }
+        ensures plan { self.new.auditor.plan ≡ self.old.auditor.plan }
+        ensures gives { (told : Told) → rows_left T.remaining self.old ≡ Some told → GivesNext told (row_told self.new.judged) (rows_left T.remaining self.new) }
+        ensures judged { (rows : List TraceRow) → HasFed self.old.auditor rows → self.old.auditor.fault ≡ None → IsJudged self.old.auditor.plan rows self.new.judged self.new }
+        ensures lines { (text : List ℕ) → HasReadIn T.remaining text self.old.rows → HasReadBehind T.remaining text (row_told self.new.judged) self.new.rows }
+        ensures state { asked ≡ true → (rows : List TraceRow) → HasFed self.old.auditor rows → self.old.auditor.fault ≡ None → IfCame (λ row. IsStateAfter self.old.auditor.plan rows row.core.0 self.new.state) self.new.judged }
+        ensures read { self.new.judged ≡ Err TraceError.Read → source_failed (source_of self.new.rows) ≡ true }
+    {
+        self.judged = self.read(asked);
+    }
+
     /// The next row, and how it is judged, as long as none has violated a rule.
     #[inline(always)]
     pub fn next_row(&mut self) -> Result<Judgement, TraceError>
@@ -284,7 +316,7 @@ impl<'p, 't, T: Read> JudgedRows<'p, 't, T> {
     }
 
     /// The same, and [`JudgedRows::state`] then tells what decided before that row who had its core's turn.
-    #[inline(never)]
+    #[inline(always)]
     pub fn next_with_state(&mut self) -> Result<Judgement, TraceError>
         ensures plan { self.new.auditor.plan ≡ self.old.auditor.plan }
         ensures gives { (told : Told) → rows_left T.remaining self.old ≡ Some told → GivesNext told (row_told result) (rows_left T.remaining self.new) }
@@ -307,21 +339,19 @@ impl<'p, 't, T: Read> JudgedRows<'p, 't, T> {
         ensures state { asked ≡ true → (rows : List TraceRow) → HasFed self.old.auditor rows → self.old.auditor.fault ≡ None → IfCame (λ row. IsStateAfter self.old.auditor.plan rows row.core.0 self.new.state) result }
     {
         let tick = self.auditor.tick();
-        // What is read by fields has a place of its own: so a row that is met is laid down nowhere.
-        let judged;
         let Some(core) = self.rows.core_ahead(tick) else {
-            judged = self.read(asked);
-            return judged;
+            self.keep_read(asked);
+            return self.judged;
         };
         if !self.auditor.is_due(core) {
-            judged = self.read(asked);
-            return judged;
+            self.keep_read(asked);
+            return self.judged;
         }
         self.look(core, asked);
         self.expect(core);
         if !self.rows.comes_behind(tick, &self.texts, core) {
-            judged = self.read_expected(tick, core);
-            return judged;
+            self.keep_expected(tick, core);
+            return self.judged;
         }
         self.auditor.accept();
         let expected = self.expected(tick, core);

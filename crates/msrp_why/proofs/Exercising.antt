@@ -29,6 +29,11 @@ below plan c j on = All-contains (λ (i : JobId). i.task.0 < length plan.tasks) 
 pub head_known : (plan : PlanModel) (c t : ℕ) (rows : List Row) (s : CoreState) → IsCoreState plan c t rows s → ForSome s.head (λ h. h.task.0 < length plan.tasks)
 head_known plan c t rows s is = λ h e. below plan c h (least_in (is_before plan) (λ j. is_released plan t j && not (is_started rows j)) (jobs_on plan c) h (sym is.head ∙ e))
 
+-- what is asked only where something else holds
+pub and_where : (b x y : Bool) → (b ≡ true → x ≡ y) → (b && x) ≡ (b && y)
+and_where true x y h = h refl
+and_where false x y h = refl
+
 -- the rows before another are few
 pub few_before : (plan : PlanModel) (rows : List Row) (r : Row) → IsPlan plan → IsRunStart plan (rows ++ r ∷ []) → length rows < 160000
 few_before plan rows r ok start =

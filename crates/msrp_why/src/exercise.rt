@@ -129,12 +129,12 @@ fn finishes(plan: &Plan, state: CoreState, kind: Kind, job: Option<JobId>) -> bo
     }
 }
 
-// The absolute deadline of a job.
-fn deadline_of(plan: &Plan, job: Option<JobId>) -> Option<u64>
-    ensures { ForSome job (λ j. is_job_of plan.now j ≡ true) → result ≡ option_map (λ j. (key plan.now j).deadline) job }
+// The absolute deadline of a job that finishes. Most turns finish none, and ask for no deadline.
+fn deadline_of(plan: &Plan, job: Option<JobId>, finished: bool) -> Option<u64>
+    ensures { finished ≡ true → ForSome job (λ j. is_job_of plan.now j ≡ true) → result ≡ option_map (λ j. (key plan.now j).deadline) job }
 {
     match job {
-        Some(known) if is_job_of(plan, known) => Some(plan.job_key(known).deadline),
+        Some(known) if finished && is_job_of(plan, known) => Some(plan.job_key(known).deadline),
         _ => None,
     }
 }
@@ -163,6 +163,7 @@ fn is_other(running: Option<JobId>, job: Option<JobId>) -> bool
 impl TurnCounts {
     /// After a legal row, where the state of its core before the row is known, and whether the row
     /// opens a critical section inside another.
+    #[inline(always)]
     pub(crate) fn note(
         &mut self,
         plan: &Plan,
@@ -175,9 +176,9 @@ impl TurnCounts {
         requires accepted { IsPlan plan.now }
         ensures { (rows : List TraceRow) → IsRunStart plan.now (rows ++ row ∷ []) → IsCoreState plan.now row.core.0 row.tick rows state → nested ≡ nests plan.now rows row → AreTurnCounts plan.now rows self.old → AreTurnCounts plan.now (rows ++ row ∷ []) self.new }
     {
-        let deadline = deadline_of(plan, row.job);
-        let level = level_of(plan, levels, state.head);
         let finished = finishes(plan, state, row.kind, row.job);
+        let deadline = deadline_of(plan, row.job, finished);
+        let level = level_of(plan, levels, state.head);
         self.finished = one_if(self.finished, finished);
         self.late = one_if(
             self.late,

@@ -92,6 +92,7 @@ fn last_after(last: Option<Numbered>, row: Numbered) -> Option<Numbered>
 
 impl ResourceNotes {
     // The notes after a row on the resource.
+    #[inline(never)]
     fn note(&mut self, row: Numbered)
         ensures { (plan : PlanModel) (rows : List TraceRow) (g : ℕ) → IsPlan plan → IsRunStart plan (rows ++ row.row ∷ []) → is_on g row.row.res ≡ true → row.number ≡ length rows + 1 → IsNoted rows g self.old → IsNoted (rows ++ row.row ∷ []) g self.new }
     {
@@ -189,6 +190,7 @@ impl Notes {
     }
 
     // Whether the job holds or awaits a resource.
+    #[inline(never)]
     fn is_inside(&self, job: JobId) -> bool
         ensures { result ≡ list_any (λ notes. is_user job notes.last notes.queue.items) self.now.resources.items }
     {
@@ -205,6 +207,7 @@ impl Notes {
 
     /// The notes after one row more, which is legal, where the state of its core before it is
     /// known.
+    #[inline(always)]
     pub fn note(&mut self, plan: &Plan, levels: &Levels<'_>, state: Option<CoreState>, row: Row)
         requires { levels.now ≡ plan.now }
         ensures { (rows : List TraceRow) → IsRunStart plan.now (rows ++ row ∷ []) → IsStateAfter plan.now rows row.core.0 state → AreNoted plan.now rows self.old → AreNoted plan.now (rows ++ row ∷ []) self.new }

@@ -31,13 +31,13 @@ returns-then-not-comes_behind-clause-judged g c = λ rows fed none.
     let plan = x.plan ∙ ap (λ (a : AuditorModel). a.plan) looked in
     let tick : c.tick-tick.result ≡ length rows / j.auditor.plan.cores = c.tick-tick.ensures.tick rows fed none ∙ ap (λ (p : PlanModel). length rows / p.cores) (sym plan) in
     let awaits = x.awaits rows (subst (λ (a : AuditorModel). HasFed a rows) (sym looked) fed) in
-    subst (λ p. IsJudged p rows c.read_expected-judged.result c.read_expected-judged.new.self) plan (c.read_expected-judged.ensures.judged rows (awaits_in j.auditor rows c.in-Some.core.0 c.tick-tick.result (row_of_core j.lasts c.in-Some.core.0) tick awaits))
+    subst (λ p. IsJudged p rows c.keep_expected.new.self.judged c.keep_expected.new.self) plan (c.keep_expected.ensures.judged rows (awaits_in j.auditor rows c.in-Some.core.0 c.tick-tick.result (row_of_core j.lasts c.in-Some.core.0) tick awaits))
 
 pub returns-then-not-comes_behind-clause-read : goal.returns-then-not-comes_behind-clause-read
 returns-then-not-comes_behind-clause-read g c = λ told rows known fed none e.
     let begins = subst (λ o. IfSome o (λ core. BeginsAt c.tick-tick.result core told)) c.in-Some.is (c.core_ahead.ensures.next told known) in
     let left = subst (λ r. told_left g.T.Read.remaining r ≡ Some told) (sym (c.expect.ensures.rows ∙ c.look.ensures.rows)) (c.core_ahead.ensures.kept told known) in
-    c.read_expected-judged.ensures.read told (c.comes_behind.ensures.kept (cc) told left) begins e
+    c.keep_expected.ensures.read told (c.comes_behind.ensures.kept (cc) told left) begins e
 
 pub returns-clause-judged : goal.returns-clause-judged
 returns-clause-judged g c = λ rows fed none.
@@ -59,15 +59,15 @@ returns-clause-judged g c = λ rows fed none.
     )
 
 pub returns-in_default-clause-lines : goal.returns-in_default-clause-lines
-returns-in_default-clause-lines g c = λ text read. c.read-judged.ensures.lines text (c.core_ahead.ensures.lines text read)
+returns-in_default-clause-lines g c = λ text read. c.keep_read.ensures.lines text (c.core_ahead.ensures.lines text read)
 
 pub returns-then-not-is_due-clause-lines : goal.returns-then-not-is_due-clause-lines
-returns-then-not-is_due-clause-lines g c = λ text read. c.read-judged-then-not-is_due.ensures.lines text (c.core_ahead.ensures.lines text read)
+returns-then-not-is_due-clause-lines g c = λ text read. c.keep_read-then-not-is_due.ensures.lines text (c.core_ahead.ensures.lines text read)
 
 pub returns-then-not-comes_behind-clause-lines : goal.returns-then-not-comes_behind-clause-lines
 returns-then-not-comes_behind-clause-lines g c = λ text read.
     let at = subst (λ t. HasReadIn g.T.Read.remaining text t) (sym (c.expect.ensures.rows ∙ c.look.ensures.rows)) (c.core_ahead.ensures.lines text read) in
-    c.read_expected-judged.ensures.lines text (c.comes_behind.ensures.lines_still (cc) text at)
+    c.keep_expected.ensures.lines text (c.comes_behind.ensures.lines_still (cc) text at)
 
 pub returns-clause-lines : goal.returns-clause-lines
 returns-clause-lines g c = λ text read.
