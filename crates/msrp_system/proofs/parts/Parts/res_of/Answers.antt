@@ -1,5 +1,5 @@
-use Rattle.std.proofs.Common.{◌≡◌, ◌∙◌}
-use Rattle.msrp_plan.proofs.Common.{Option, ap, sym, map, name_position, PlanModel}
+use Rattle.std.proofs.Common.{◌∙◌}
+use Rattle.msrp_plan.proofs.Common.{ap, sym, map, name_position, PlanModel}
 use Rattle.std.specs.Prelude.{string_bytes}
 use Rattle.msrp_system.proofs.NamedParts.{res_named}
 use Rattle.msrp_system.proofs.parts.Parts.res_of.Goals as goal

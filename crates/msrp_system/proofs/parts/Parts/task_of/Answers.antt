@@ -1,5 +1,5 @@
-use Rattle.std.proofs.Common.{◌≡◌, ◌∙◌}
-use Rattle.msrp_plan.proofs.Common.{Option, ap, sym, map, name_position, PlanModel, TaskModel}
+use Rattle.std.proofs.Common.{◌∙◌}
+use Rattle.msrp_plan.proofs.Common.{ap, sym, map, name_position, PlanModel, TaskModel}
 use Rattle.msrp_system.specs.Systems.{task_view}
 use Rattle.msrp_system.proofs.NamedParts.{task_named}
 use Rattle.msrp_system.proofs.parts.Parts.task_of.Goals as goal
