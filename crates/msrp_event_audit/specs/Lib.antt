@@ -1,0 +1,3 @@
+pub mod LogJobs
+pub mod States
+pub mod Auditors

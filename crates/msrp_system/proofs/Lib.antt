@@ -1,0 +1,3 @@
+pub mod GatheredTasks
+pub mod AcceptedSystems
+pub mod NamedParts

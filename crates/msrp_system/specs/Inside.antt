@@ -1,0 +1,2 @@
+-- Words of the tables. No public contract speaks of them.
+pub mod Views
