@@ -1,6 +1,6 @@
 //! The calls of a run on threads of its caller's.
 ghost use Rattle.std.specs.Prelude.{◌≡◌, ◌≢◌, ◌⊎◌, ◌↔◌};
-ghost use Rattle.msrp_plan.specs.Common.{Some, None, Ok, Err, IfOk, IfErr, IfSome, IsSomeAnd};
+ghost use Rattle.msrp_plan.specs.Common.{Some, None, Ok, Err, IfOk, IfErr, IfSome, IsSome, IsSomeAnd};
 ghost use Rattle.msrp_engine.specs.Answered.{OrUnread};
 ghost use Rattle.msrp_faults.specs.declared.faults.CliFault.{CliFault};
 ghost use Rattle.msrp_hosted.specs.Hosted.{CanJoin, IsOfRun, new_core};
@@ -62,6 +62,8 @@ fn next_core(content: &mut Content) -> Result<Box<Content>, u32>
     ensures next { IfOk result (λ core. IsSomeAnd (open_in (Some content.old)) (λ run. (core_in (Some core.value) ≡ Some (new_core run)) × (open_in (Some content.new) ≡ Some (one_more_out run)))) }
     ensures all { IfSome (open_in (Some content.old)) (λ run. (result ≡ Err 8) ↔ (run.handed ≡ run.plan.cores)) }
     ensures none { IfErr result (λ status. ((status ≡ 3) ⊎ (status ≡ 4) ⊎ (status ≡ 8)) × (open_in (Some content.new) ≡ open_in (Some content.old))) }
+    ensures settled { IsSome (settled_in (Some content.old)) → result ≡ Err 8 }
+    ensures misuse { open_in (Some content.old) ≡ None → settled_in (Some content.old) ≡ None → result ≡ Err 3 }
     ensures other { open_in (Some content.old) ≡ None → content.new ≡ content.old }
 {
     match content {
@@ -76,6 +78,10 @@ fn next_core(content: &mut Content) -> Result<Box<Content>, u32>
 pub extern "C" fn msrp_run_core(alloc: Global, run: &mut MsrpHandle, core: &mut MsrpHandle) -> u32
     ensures next { result ≡ 0 → (core.old.value ≡ None) × IsSomeAnd (open_in run.old.value) (λ old. (core_in core.new.value ≡ Some (new_core old)) × (open_in run.new.value ≡ Some (one_more_out old))) }
     ensures all { core.old.value ≡ None → IfSome (open_in run.old.value) (λ old. (result ≡ 8) ↔ (old.handed ≡ old.plan.cores)) }
+    ensures settled { core.old.value ≡ None → IsSome (settled_in run.old.value) → result ≡ 8 }
+    ensures misuse { open_in run.old.value ≡ None → settled_in run.old.value ≡ None → result ≡ 3 }
+    ensures used { IsSome core.old.value → result ≡ 3 }
+    ensures status { (result ≡ 0) ⊎ (result ≡ 3) ⊎ (result ≡ 4) ⊎ (result ≡ 8) }
     ensures none { result ≢ 0 → (core.new.value ≡ core.old.value) × (open_in run.new.value ≡ open_in run.old.value) }
     ensures other { open_in run.old.value ≡ None → run.new.value ≡ run.old.value }
 {
