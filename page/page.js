@@ -273,6 +273,8 @@ function blockAt(lane, tick) {
 
 function isInSight(lane) {
   if (lane.what !== 'task' && lane.what !== 'queue') return true;
+  const next = lane.what === 'task' ? jobs[lane.number][firstJob(jobs[lane.number])] : undefined;
+  if (next && next.release <= view.to) return true;
   return lane.layers.some((track) => {
     const block = track.blocks[track.place(view.from)];
     return block !== undefined && block.first < view.to;
@@ -383,7 +385,7 @@ function wouldShow(lane) {
 // ---- drawing
 
 const canvas = byId('canvas');
-const context = canvas.getContext('2d');
+const context = canvas.getContext('2d', { alpha: false });
 // The colours of resources: those of Okabe and Ito, which the colour-blind tell apart, lightened for black letters.
 const HUES = ['#eebc4d', '#89cbf0', '#4dbb9d', '#f4ec7b', '#4d9cc9', '#e28e4d', '#dba1c1'];
 const FONT = '11px ui-monospace, monospace';
@@ -443,6 +445,7 @@ function draw() {
   drawAxis();
   drawMap();
   Object.assign(canvas.dataset, { blocks: drawn.blocks, arrows: drawn.arrows, from: view.from, to: view.to });
+  if (!performance.getEntriesByName('shown').length) performance.mark('shown');
 }
 
 // The distance of the numbers of the axis, in ticks.
@@ -490,16 +493,15 @@ function label(text, x, top, height, width, ground, colour) {
 }
 
 // A block, and its label where there is room for it.
-function drawBlock(block, top, height, fill, text, colour) {
-  const left = Math.max(-2, xOf(block.first));
-  const width = Math.max(1, Math.min(state.width + 2, xOf(block.end)) - left);
+function drawBlock(block, top, height, fill, text, colour, counts = 1) {
+  const left = Math.max(-2, Math.round(xOf(block.first)));
+  const width = Math.max(1, Math.min(state.width + 2, Math.round(xOf(block.end))) - left);
   context.globalAlpha = opacity(block);
   context.fillStyle = fill;
   context.fillRect(left, top, width, height);
   if (width > 3 && height > 6) {
-    context.strokeStyle = palette.faint;
-    context.lineWidth = 0.6;
-    context.strokeRect(left, top, width, height);
+    context.fillStyle = palette.faint;
+    context.fillRect(left, top, 1, height);
   }
   const room = Math.min(width, left + width) - 6;
   if (text && height >= 12 && text.length * LETTER <= room) {
@@ -507,7 +509,7 @@ function drawBlock(block, top, height, fill, text, colour) {
     context.fillText(text, Math.max(left, 0) + 3, top + Math.min(height, 16) - 4);
   }
   context.globalAlpha = 1;
-  drawn.blocks += 1;
+  drawn.blocks += counts;
 }
 
 // What isn't lit up is pale, and so is what follows the fault.
@@ -522,9 +524,8 @@ function drawLane(lane, top) {
     context.fillStyle = palette.lane;
     context.fillRect(0, top, state.width, lane.height);
   }
-  context.strokeStyle = palette.line;
-  context.lineWidth = 1;
-  context.strokeRect(-1, Math.round(top) + 0.5, state.width + 2, lane.height);
+  context.fillStyle = palette.line;
+  context.fillRect(0, Math.round(top), state.width, 1);
   context.font = FONT;
   context.textAlign = 'left';
   const least = 1.5 / scale();
@@ -538,9 +539,10 @@ const hueOf = (res) => HUES[res % HUES.length];
 const PAINTERS = [
   (block, top) => drawBlock(block, top + 3, 18, palette.runs, taskName(block.task)),
   (block, top) => {
-    drawBlock(block, top + 16, 28, palette.works, '');
-    if (block.kind === QUEUE || block.kind === SPIN) drawBlock(block, top + 16, 28, palette.hatch, '');
-    drawn.blocks -= block.kind === QUEUE || block.kind === SPIN ? 1 : 0;
+    const waits = block.kind === QUEUE || block.kind === SPIN;
+    const isWide = (block.end - block.first) * scale() > 3;
+    drawBlock(block, top + 16, 28, waits && !isWide ? palette.waits : palette.works, '');
+    if (waits && isWide) drawBlock(block, top + 16, 28, palette.hatch, '', '', 0);
     drawJobNumber(block, top + 16);
   },
   (block, top, lane) => {
@@ -566,20 +568,23 @@ function drawJobNumber(block, top) {
 
 // The arrows of releases and deadlines, and the marks of completions. Where they are too close, some are left out.
 function drawArrows(lane, top) {
-  const last = [-9, -9, -9];
-  const all = jobs[lane.number];
+  const [last, marks, all] = [[-9, -9, -9], [[], []], jobs[lane.number]];
   for (let at = firstJob(all); at < all.length && all[at].release <= view.to; at++) {
-    const job = all[at];
-    context.strokeStyle = palette.text;
-    context.globalAlpha = opacity({ legal: true, look: LIFE, task: job.task, job: job.number });
-    [[RELEASE, job.release], [DEADLINE, job.deadline], [COMPLETION, job.finished ? job.end : -1]].forEach(([moment, tick]) => {
+    const { task, number, release, deadline, end, finished } = all[at];
+    const lit = !state.selected || state.related.has(keyOf(task, number));
+    [release, deadline, finished ? end : -1].forEach((tick, moment) => {
       const x = xOf(tick);
-      if (tick < view.from || tick > view.to || tick > facts.ticks || x - last[moment] < 3) return;
+      if (tick < view.from || tick > Math.min(view.to, facts.ticks) || x - last[moment] < 7) return;
       last[moment] = x;
-      drawMark(context, moment, x, top);
-      drawn.arrows += 1;
+      marks[lit ? 1 : 0].push([moment, x]);
     });
   }
+  context.strokeStyle = palette.text;
+  marks.forEach((some, lit) => {
+    context.globalAlpha = lit ? 1 : 0.25;
+    drawMarks(context, some, top);
+    drawn.arrows += some.length;
+  });
   context.globalAlpha = 1;
 }
 
@@ -593,16 +598,15 @@ function firstJob(all) {
   return low;
 }
 
-function drawMark(pen, moment, x, top) {
+function drawMarks(pen, marks, top) {
   const [low, high] = [top + 15, top + 2];
   pen.lineWidth = 1.3;
   pen.beginPath();
-  if (moment === COMPLETION) {
-    pen.moveTo(x - 4, top + 9); pen.lineTo(x + 4, top + 9);
-    pen.moveTo(x, top + 9); pen.lineTo(x, low);
-  } else {
+  for (const [moment, x] of marks) {
+    pen.moveTo(x, low);
+    pen.lineTo(x, moment === COMPLETION ? low - 6 : high);
+    if (moment === COMPLETION) { pen.moveTo(x - 4, low - 6); pen.lineTo(x + 4, low - 6); continue; }
     const [tip, tail] = moment === RELEASE ? [high, high + 4] : [low, low - 4];
-    pen.moveTo(x, low); pen.lineTo(x, high);
     pen.moveTo(x - 3, tail); pen.lineTo(x, tip); pen.lineTo(x + 3, tail);
   }
   pen.stroke();
@@ -743,7 +747,8 @@ function linkButton(words, act) {
 }
 
 // Lights up a job, and shows it at a tick.
-function showJob(job, tick = job.release) {
+function showJob(job, at = job.release) {
+  const tick = Math.min(at, facts.ticks - 1);
   select(job);
   const lane = taskLane(job.task);
   state.cursor = { lane, tick };
@@ -909,9 +914,9 @@ const SWATCHES = [
   ['released, not finished', (pen) => { pen.fillStyle = palette.life; pen.fillRect(0, 7, 26, 2); }],
   ['late', (pen) => { pen.fillStyle = palette.late; pen.fillRect(0, 6, 26, 4); }],
   ['ceiling of the core', (pen) => { pen.fillStyle = palette.ceiling; pen.fillRect(0, 2, 26, 12); }],
-  ['release', (pen) => drawMark(pen, RELEASE, 13, 0)],
-  ['absolute deadline', (pen) => drawMark(pen, DEADLINE, 13, 0)],
-  ['completion', (pen) => drawMark(pen, COMPLETION, 13, 0)],
+  ['release', (pen) => drawMarks(pen, [[RELEASE, 13]], 0)],
+  ['absolute deadline', (pen) => drawMarks(pen, [[DEADLINE, 13]], 0)],
+  ['completion', (pen) => drawMarks(pen, [[COMPLETION, 13]], 0)],
   ['resource: the first in its queue, +n wait behind it', (pen) => { pen.fillStyle = HUES[1]; pen.fillRect(0, 2, 26, 12); }],
 ];
 
