@@ -12,17 +12,8 @@ const KINDS = ['idle', 'run', 'lock', 'unlock', 'take', 'queue', 'spin', 'grant'
 const [QUEUE, SPIN] = [5, 6];
 const DEEDS = ['idles', 'runs', 'locks', 'unlocks', 'acquires', 'joins the queue of', 'spins on', 'acquires', 'releases'];
 
-// How many numbers a block of a look has after its first tick and its length, and what they are.
-const WIDTHS = [2, 3, 2, 3, 2, 1, 1];
-const READERS = [
-  (block, at, group) => { block.task = group[at]; block.job = group[at + 1]; },
-  (block, at, group) => { block.job = group[at]; block.kind = group[at + 1]; block.res = group[at + 2] - 1; },
-  (block, at, group) => { block.job = group[at]; block.res = group[at + 1]; },
-  (block, at, group) => { block.task = group[at]; block.job = group[at + 1]; block.value = group[at + 2]; },
-  (block, at, group) => { block.job = group[at]; block.value = group[at + 1]; },
-  (block, at, group) => { block.job = group[at]; },
-  (block, at, group) => { block.value = group[at]; },
-];
+// What a block of each look has after its first tick and its length.
+const FIELDS = [['task', 'job'], ['job', 'kind', 'res'], ['job', 'res'], ['task', 'job', 'value'], ['job', 'value'], ['job'], ['value']];
 
 // The blocks of one look in a lane, in the order of their first ticks.
 class Track {
@@ -37,12 +28,7 @@ class Track {
       let most = 0;
       this.reach = Int32Array.from(this.blocks, (block) => { most = Math.max(most, block.end); return most; });
     }
-    let [low, high] = [0, this.reach.length];
-    while (low < high) {
-      const middle = (low + high) >> 1;
-      if (this.reach[middle] > tick) high = middle; else low = middle + 1;
-    }
-    return low;
+    return firstOf(this.reach, (end) => end > tick);
   }
 
   // Visits the blocks between two ticks. Of blocks closer to one another than so many ticks it visits one.
@@ -72,15 +58,15 @@ function trackOf(look, lane, legal) {
   return tracks.get(name);
 }
 
-function readBlocks(group) {
-  const [look, lane, legal] = group;
+function readBlocks([look, lane, legal, ...numbers]) {
   const { blocks } = trackOf(look, lane, legal);
-  const width = WIDTHS[look] + 2;
+  const fields = FIELDS[look];
   let first = 0;
-  for (let at = 3; at < group.length; at += width) {
-    first += group[at];
-    const block = { look, first, end: first + group[at + 1], legal: legal === 1, task: lane, job: -1, kind: 0, res: look === FIRST ? lane : -1, value: 0 };
-    READERS[look](block, at + 2, group);
+  for (let at = 0; at < numbers.length; at += fields.length + 2) {
+    first += numbers[at];
+    const block = { look, first, end: first + numbers[at + 1], legal: legal === 1, task: lane, job: -1, kind: 0, res: lane, value: 0 };
+    fields.forEach((field, place) => { block[field] = numbers[at + 2 + place]; });
+    if (look === DOES) block.res -= 1;
     blocks.push(block);
   }
 }
@@ -281,15 +267,17 @@ function isInSight(lane) {
   });
 }
 
+// The heads of what is folded are shown, and all else only if it is in sight or lit up.
+function isWanted(lane) {
+  const isLit = state.selected && lane.what === 'task' && lane.number === state.selected.task;
+  return isHead(lane) || (!folded.has(lane.core) && (isLit || !byId('hide').checked || isInSight(lane)));
+}
+
 // Places the lanes that are shown, and names them. The names are elements, so that they are read aloud and can be focused.
 function layOut() {
-  const hides = byId('hide').checked;
-  const kept = state.selected ? state.selected.task : -1;
   let top = AXIS;
   for (const lane of lanes) {
-    const chosen = lane.what === 'task' && lane.number === kept;
-    lane.shown = isHead(lane) || (!folded.has(lane.core) && (!hides || chosen || isInSight(lane)));
-    lane.top = top;
+    Object.assign(lane, { shown: isWanted(lane), top });
     if (lane.shown) top += lane.height;
   }
   const names = byId('names');
@@ -372,14 +360,9 @@ let settling = 0;
 function settleSoon() {
   clearTimeout(settling);
   settling = setTimeout(() => {
-    if (byId('hide').checked && lanes.some((lane) => lane.shown !== wouldShow(lane))) layOut();
+    if (lanes.some((lane) => lane.shown !== isWanted(lane))) layOut();
     if (byId('rows').open) writeTable();
   }, 150);
-}
-
-function wouldShow(lane) {
-  const chosen = state.selected && lane.what === 'task' && lane.number === state.selected.task;
-  return isHead(lane) || (!folded.has(lane.core) && (chosen || isInSight(lane)));
 }
 
 // ---- drawing
@@ -528,7 +511,7 @@ function drawLane(lane, top) {
   context.fillRect(0, Math.round(top), state.width, 1);
   context.font = FONT;
   context.textAlign = 'left';
-  const least = 1.5 / scale();
+  const least = 2.5 / scale();
   for (const track of lane.layers) track.visit(view.from, view.to, least, (block) => PAINTERS[block.look](block, top, lane));
   if (lane.what === 'task') drawArrows(lane, top);
 }
@@ -569,8 +552,9 @@ function drawJobNumber(block, top) {
 // The arrows of releases and deadlines, and the marks of completions. Where they are too close, some are left out.
 function drawArrows(lane, top) {
   const [last, marks, all] = [[-9, -9, -9], [[], []], jobs[lane.number]];
-  for (let at = firstJob(all); at < all.length && all[at].release <= view.to; at++) {
-    const { task, number, release, deadline, end, finished } = all[at];
+  const inSight = all.slice(firstJob(all), firstLater(all));
+  if (inSight.length > state.width / 12) return;
+  for (const { task, number, release, deadline, end, finished } of inSight) {
     const lit = !state.selected || state.related.has(keyOf(task, number));
     [release, deadline, finished ? end : -1].forEach((tick, moment) => {
       const x = xOf(tick);
@@ -588,15 +572,18 @@ function drawArrows(lane, top) {
   context.globalAlpha = 1;
 }
 
-// The place of the first job whose deadline or completion may be in sight.
-function firstJob(all) {
+// The place of the first job of which this holds, as of all after it.
+function firstOf(all, holds) {
   let [low, high] = [0, all.length];
   while (low < high) {
     const middle = (low + high) >> 1;
-    if (Math.max(all[middle].deadline, all[middle].end) >= view.from) high = middle; else low = middle + 1;
+    if (holds(all[middle])) high = middle; else low = middle + 1;
   }
   return low;
 }
+
+const firstJob = (all) => firstOf(all, (job) => Math.max(job.deadline, job.end) >= view.from);
+const firstLater = (all) => firstOf(all, (job) => job.release > view.to);
 
 function drawMarks(pen, marks, top) {
   const [low, high] = [top + 15, top + 2];
@@ -897,39 +884,8 @@ function reportRow(task, number) {
 }
 
 function writeReport() {
-  const head = document.createElement('tr');
-  for (const name of ['Task', 'Core', 'Finished', 'Late', 'Worst response, of the relative deadline', 'Longest spin, of its bound', 'Longest blocking, of its bound']) {
-    const cell = element('th', name, ['Core', 'Finished', 'Late'].includes(name) ? 'number' : '');
-    cell.scope = 'col';
-    head.append(cell);
-  }
-  byId('report').replaceChildren(head, ...facts.tasks.map(reportRow));
+  byId('report').append(...facts.tasks.map(reportRow));
   byId('report-note').textContent = `${facts.fault ? 'Only the rows before the fault count. ' : ''}A bar leads to the job. The bounds hold in every legal run of the plan.`;
-}
-
-const SWATCHES = [
-  ['J0: job 0 runs', (pen) => { pen.fillStyle = palette.works; pen.fillRect(0, 2, 26, 12); }],
-  ['spins', (pen) => { pen.fillStyle = palette.works; pen.fillRect(0, 2, 26, 12); pen.fillStyle = palette.hatch; pen.fillRect(0, 2, 26, 12); }],
-  ['critical section, by resource', (pen) => HUES.slice(0, 3).forEach((hue, place) => { pen.fillStyle = hue; pen.fillRect(place * 9, 2, 8, 12); })],
-  ['released, not finished', (pen) => { pen.fillStyle = palette.life; pen.fillRect(0, 7, 26, 2); }],
-  ['late', (pen) => { pen.fillStyle = palette.late; pen.fillRect(0, 6, 26, 4); }],
-  ['ceiling of the core', (pen) => { pen.fillStyle = palette.ceiling; pen.fillRect(0, 2, 26, 12); }],
-  ['release', (pen) => drawMarks(pen, [[RELEASE, 13]], 0)],
-  ['absolute deadline', (pen) => drawMarks(pen, [[DEADLINE, 13]], 0)],
-  ['completion', (pen) => drawMarks(pen, [[COMPLETION, 13]], 0)],
-  ['resource: the first in its queue, +n wait behind it', (pen) => { pen.fillStyle = HUES[1]; pen.fillRect(0, 2, 26, 12); }],
-];
-
-function writeLegend() {
-  byId('legend').replaceChildren(...SWATCHES.map(([words, paint]) => {
-    const [item, swatch] = [document.createElement('li'), document.createElement('canvas')];
-    Object.assign(swatch, { width: 26, height: 16 });
-    const pen = swatch.getContext('2d');
-    pen.strokeStyle = palette.text;
-    paint(pen);
-    item.append(swatch, words);
-    return item;
-  }));
 }
 
 // The rows in sight, at most 240, as a table.
@@ -1055,11 +1011,8 @@ function mapMove(event) {
 }
 
 function listen() {
-  const buttons = { 'zoom-in': KEYS['+'], 'zoom-out': KEYS['-'], whole: KEYS[0], 'to-fault': showFault, 'to-late': showNextLate, 'to-wait': showLongestWait };
-  for (const [name, act] of Object.entries(buttons)) byId(name).addEventListener('click', act);
-  byId('to-fault').disabled = !facts.fault;
-  byId('to-late').disabled = !lateJobs.length;
-  byId('to-wait').disabled = !longestWait;
+  for (const button of document.querySelectorAll('[data-key]')) button.addEventListener('click', () => KEYS[button.dataset.key]());
+  Object.entries({ 'to-fault': facts.fault, 'to-late': lateJobs.length, 'to-wait': longestWait }).forEach(([name, is]) => { byId(name).disabled = !is; });
   byId('to-tick').addEventListener('submit', (event) => {
     event.preventDefault();
     const tick = Number.parseInt(byId('tick').value, 10);
@@ -1081,7 +1034,6 @@ function listen() {
 
 function recolour() {
   readPalette();
-  writeLegend();
   layOut();
 }
 
