@@ -136,8 +136,8 @@ pub(crate) const TAIL: &str =
     r#"</script>
 <script>
 'use strict';
-// Draws the facts that the program wrote into this page. It judges nothing. Names are data: they are shown by textContent
-// and by the canvas, never as markup. Times are ticks.
+// Draws the facts that the program wrote into this page. It judges nothing. Times are ticks. Names are data: they are
+// shown by textContent and by the canvas, never as markup.
 
 const byId = (name) => document.getElementById(name);
 const facts = JSON.parse(byId('facts').textContent);
@@ -145,12 +145,12 @@ const facts = JSON.parse(byId('facts').textContent);
 // ---- facts: blocks, events, jobs
 
 const [RUNS, DOES, HOLDS, FIRST, LIFE, LATE, CEILING] = [0, 1, 2, 3, 4, 5, 6];
-const KINDS = ['idle', 'run', 'lock', 'unlock', 'take', 'queue', 'spin', 'grant', 'release'];
+const KINDS = 'idle run lock unlock take queue spin grant release'.split(' ');
 const [QUEUE, SPIN] = [5, 6];
-const DEEDS = ['idles', 'runs', 'locks', 'unlocks', 'acquires', 'joins the queue of', 'spins on', 'acquires', 'releases'];
+const DEEDS = 'idles,runs,locks,unlocks,acquires,joins the queue of,spins on,acquires,releases'.split(',');
 
 // What a block of each look has after its first tick and its length.
-const FIELDS = [['task', 'job'], ['job', 'kind', 'res'], ['job', 'res'], ['task', 'job', 'value'], ['job', 'value'], ['job'], ['value']];
+const FIELDS = 'task job,job kind res,job res,task job value,job value,job,value'.split(',').map((all) => all.split(' '));
 
 // The blocks of one look in a lane, in the order of their first ticks.
 class Track {
@@ -201,7 +201,8 @@ function readBlocks([look, lane, legal, ...numbers]) {
   let first = 0;
   for (let at = 0; at < numbers.length; at += fields.length + 2) {
     first += numbers[at];
-    const block = { look, first, end: first + numbers[at + 1], legal: legal === 1, task: lane, job: -1, kind: 0, res: lane, value: 0 };
+    const end = first + numbers[at + 1];
+    const block = { look, first, end, legal: legal === 1, task: lane, job: -1, kind: 0, res: lane, value: 0 };
     fields.forEach((field, place) => { block[field] = numbers[at + 2 + place]; });
     if (look === DOES) block.res -= 1;
     blocks.push(block);
@@ -224,7 +225,8 @@ function readEvents(group) {
     tick += group[at];
     const number = group[at + 1];
     if (moment === RELEASE) {
-      jobs[task][number] = { task, number, release: tick, deadline: tick + facts.tasks[task][2], end: begun, finished: false };
+      const deadline = tick + facts.tasks[task][2];
+      jobs[task][number] = { task, number, release: tick, deadline, end: begun, finished: false };
     } else if (moment === COMPLETION) {
       Object.assign(jobs[task][number], { end: tick, finished: true });
     }
@@ -239,15 +241,13 @@ const response = (job) => (job.finished ? job.end - job.release : 0);
 // The stretches in which the jobs of a task wait for a global resource.
 function waitsOf(task) {
   const waits = [];
-  for (const block of trackOf(DOES, task, true).blocks) {
-    if (block.kind !== QUEUE && block.kind !== SPIN) continue;
+  for (const { kind, job, res, first, end } of trackOf(DOES, task, true).blocks) {
     const last = waits[waits.length - 1];
-    if (last && last.job === block.job && last.end === block.first) {
-      last.end = block.end;
-      last.spins += block.end - block.first;
-    } else {
-      waits.push({ task, job: block.job, res: block.res, first: block.first, end: block.end, spins: block.kind === SPIN ? block.end - block.first : 0 });
-    }
+    const spins = kind === SPIN ? end - first : 0;
+    if (spins && last && last.job === job && last.end === first) {
+      last.spins += spins;
+      last.end = end;
+    } else if (spins || kind === QUEUE) waits.push({ task, job, res, first, end, spins });
   }
   return waits;
 }
@@ -258,7 +258,8 @@ for (const track of tracks.values()) track.blocks.sort((a, b) => a.first - b.fir
 const allJobs = jobs.flat();
 const lateJobs = allJobs.filter(isLate).sort((a, b) => a.deadline - b.deadline);
 const allWaits = facts.tasks.flatMap((_, task) => waitsOf(task));
-const longestWait = allWaits.reduce((best, wait) => (!best || wait.end - wait.first > best.end - best.first ? wait : best), null);
+const lengthOf = (wait) => wait.end - wait.first;
+const longestWait = allWaits.reduce((best, wait) => (!best || lengthOf(wait) > lengthOf(best) ? wait : best), null);
 
 // The tick of the fault: that of its row, or the one in which a row is missing.
 function faultTick() {
@@ -292,7 +293,7 @@ function rowNumber(tick, core) {
 
 // The line of a row in the trace, where it is known.
 function lineNumber(row) {
-  const [from, line] = facts.lines.findLast(([first]) => first <= row) || [1, 0];
+  const [from, line] = facts.lines[firstOf(facts.lines, ([first]) => first > row) - 1] || [1, 0];
   return line ? line + row - from : null;
 }
 
@@ -333,7 +334,8 @@ function describe(lane, tick) {
   if (lane.what === 'queue') {
     if (!block) return `${tickText(tick)}: nobody is in the queue of ${resName(lane.number)}`;
     const behind = block.value ? `, ${block.value} behind it` : '';
-    return `${tickText(tick)}: ${jobText(block.task, block.job)} is first in the queue of ${resName(lane.number)}${behind}${spanText(block)}`;
+    const said = `${jobText(block.task, block.job)} is first in the queue of ${resName(lane.number)}`;
+    return `${tickText(tick)}: ${said}${behind}${spanText(block)}`;
   }
   if (lane.what === 'head') return 'Global resources';
   if (!block) return `${placeText(tick, core)}: ${lane.what === 'core' ? 'idle' : 'no job of this task'}`;
@@ -410,7 +412,7 @@ function isWanted(lane) {
   return isHead(lane) || (!folded.has(lane.core) && (isLit || !byId('hide').checked || isInSight(lane)));
 }
 
-// Places the lanes that are shown, and names them. The names are elements, so that they are read aloud and can be focused.
+// Places the lanes that are shown, and names them by elements, which can be read aloud and focused.
 function layOut() {
   let top = AXIS;
   for (const lane of lanes) {
@@ -425,28 +427,17 @@ function layOut() {
 }
 
 function nameElement(lane) {
-  const element = document.createElement('div');
-  element.className = 'lane';
-  element.style.top = `${lane.top}px`;
-  element.style.height = `${lane.height}px`;
-  const name = document.createElement(isHead(lane) ? 'button' : 'span');
-  const isFolded = folded.has(lane.core);
-  name.textContent = isHead(lane) ? `${isFolded ? '\u25b8' : '\u25be'} ${lane.name}` : lane.name;
+  const [made, isFolded] = [element('div', '', 'lane'), folded.has(lane.core)];
+  made.style.top = `${lane.top}px`;
+  made.style.height = `${lane.height}px`;
   if (isHead(lane)) {
+    const name = element('button', `${isFolded ? '\u25b8' : '\u25be'} ${lane.name}`);
     name.setAttribute('aria-expanded', String(!isFolded));
     name.addEventListener('click', () => fold(lane.core));
-  }
-  if (lane.what === 'ceiling') name.className = 'what';
-  element.append(name);
-  if (lane.what === 'task') element.append(noteElement(`level ${facts.tasks[lane.number][3]}`));
-  return element;
-}
-
-function noteElement(text) {
-  const note = document.createElement('span');
-  note.className = 'what';
-  note.textContent = text;
-  return note;
+    made.append(name);
+  } else made.append(element('span', lane.name, lane.what === 'ceiling' ? 'what' : ''));
+  if (lane.what === 'task') made.append(element('span', `level ${facts.tasks[lane.number][3]}`, 'what'));
+  return made;
 }
 
 function fold(core) {
@@ -459,7 +450,7 @@ function fold(core) {
 // ---- the view: which ticks are in sight
 
 const view = { from: 0, to: Math.max(1, facts.ticks) };
-const state = { selected: null, related: new Map(), cursor: null, late: -1, bottom: 0, width: 800, height: 400, scheduled: false };
+const state = { selected: null, related: new Set(), links: [], cursor: null, late: -1, bottom: 0, width: 800 };
 
 function setView(from, to) {
   const span = Math.min(facts.ticks, Math.max(4, to - from));
@@ -514,10 +505,10 @@ const palette = {};
 
 function readPalette() {
   const style = getComputedStyle(document.documentElement);
-  for (const name of ['back', 'text', 'faint', 'line', 'lane', 'works', 'runs', 'waits', 'late', 'life', 'ceiling', 'focus']) {
+  for (const name of 'back text faint line lane works runs waits late life ceiling focus'.split(' ')) {
     palette[name] = style.getPropertyValue(`--${name}`).trim();
   }
-  const tile = new OffscreenCanvas(6, 6);
+  const tile = Object.assign(document.createElement('canvas'), { width: 6, height: 6 });
   const pen = tile.getContext('2d');
   pen.strokeStyle = palette.waits;
   pen.lineWidth = 1.2;
@@ -531,7 +522,8 @@ function sizeCanvas() {
   const box = byId('lanes');
   const ratio = window.devicePixelRatio || 1;
   state.width = Math.max(50, box.clientWidth - byId('names').offsetWidth);
-  state.height = Math.min(state.bottom, window.matchMedia('print').matches ? state.bottom : box.clientHeight || state.bottom);
+  const room = window.matchMedia('print').matches ? 0 : box.clientHeight;
+  state.height = Math.min(state.bottom, room || state.bottom);
   canvas.width = Math.round(state.width * ratio);
   canvas.height = Math.round(state.height * ratio);
   canvas.style.width = `${state.width}px`;
@@ -577,7 +569,8 @@ function axisStep() {
 
 function eachMark(visit) {
   const step = axisStep();
-  for (let tick = Math.ceil(view.from / step) * step; tick <= view.to; tick += step) visit(tick, Math.round(xOf(tick)) + 0.5);
+  const first = Math.ceil(view.from / step) * step;
+  for (let tick = first; tick <= view.to; tick += step) visit(tick, Math.round(xOf(tick)) + 0.5);
 }
 
 function drawGrid() {
@@ -601,15 +594,11 @@ function drawAxis() {
   context.font = FONT;
   context.textAlign = 'left';
   eachMark((tick, x) => context.fillText(timeText(tick), x + 3, 15));
-  if (facts.fault && faultTick() >= view.from && faultTick() < view.to) label(facts.fault[1], xOf(faultTick()) - 2, 2, 18, 22, palette.late, '#fff');
-}
-
-// A word on a ground of its own.
-function label(text, x, top, height, width, ground, colour) {
-  context.fillStyle = ground;
-  context.fillRect(x, top, width, height);
-  context.fillStyle = colour;
-  context.fillText(text, x + 3, top + height - 5);
+  if (!facts.fault || faultTick() < view.from || faultTick() >= view.to) return;
+  context.fillStyle = palette.late;
+  context.fillRect(xOf(faultTick()) - 2, 2, 22, 18);
+  context.fillStyle = '#fff';
+  context.fillText(facts.fault[1], xOf(faultTick()) + 1, 15);
 }
 
 // A block, and its label where there is room for it.
@@ -649,7 +638,8 @@ function drawLane(lane, top) {
   context.font = FONT;
   context.textAlign = 'left';
   const least = 2.5 / scale();
-  for (const track of lane.layers) track.visit(view.from, view.to, least, (block) => PAINTERS[block.look](block, top, lane));
+  const paint = (block) => PAINTERS[block.look](block, top, lane);
+  for (const track of lane.layers) track.visit(view.from, view.to, least, paint);
   if (lane.what === 'task') drawArrows(lane, top);
 }
 
@@ -669,7 +659,10 @@ const PAINTERS = [
     const height = Math.max(4, Math.floor(14 / lane.depth));
     drawBlock(block, top + 30 + block.value * height, height, hueOf(block.res), resName(block.res), '#000');
   },
-  (block, top) => drawBlock(block, top + 3, 18, hueOf(block.res), taskName(block.task) + (block.value ? ` +${block.value}` : ''), '#000'),
+  (block, top) => {
+    const behind = block.value ? ` +${block.value}` : '';
+    drawBlock(block, top + 3, 18, hueOf(block.res), taskName(block.task) + behind, '#000');
+  },
   (block, top) => drawBlock(block, top + 13, 2, palette.life, ''),
   (block, top) => drawBlock(block, top + 45, 4, palette.late, ''),
   (block, top) => drawBlock(block, top + 1, 13, palette.ceiling, String(block.value)),
@@ -784,7 +777,8 @@ function drawCursor(scrolled) {
   context.strokeStyle = palette.focus;
   context.lineWidth = 2;
   const left = Math.max(1, xOf(block.first));
-  context.strokeRect(left, lane.top - scrolled + 1, Math.max(3, Math.min(state.width - 1, xOf(block.end)) - left), lane.height - 2);
+  const width = Math.max(3, Math.min(state.width - 1, xOf(block.end)) - left);
+  context.strokeRect(left, lane.top - scrolled + 1, width, lane.height - 2);
 }
 
 // ---- the small map of the whole run
@@ -795,20 +789,21 @@ let wholeMap = null;
 function drawWholeMap() {
   const [width, height] = [Math.max(50, map.clientWidth), 44];
   Object.assign(map, { width, height });
-  wholeMap = new OffscreenCanvas(width, height);
+  wholeMap = Object.assign(document.createElement('canvas'), { width, height });
   const pen = wholeMap.getContext('2d');
   const [across, strip] = [width / facts.ticks, (height - 6) / facts.cores];
-  const bar = (block, top, thick) => pen.fillRect(block.first * across, top, Math.max(1, (block.end - block.first) * across), thick);
+  const fill = (from, to, top, thick) => pen.fillRect(from * across, top, Math.max(1.5, (to - from) * across), thick);
   for (let core = 0; core < facts.cores; core++) {
     pen.fillStyle = palette.runs;
     for (const legal of [true, false]) {
       pen.globalAlpha = legal ? 1 : 0.35;
-      trackOf(RUNS, core, legal).visit(0, facts.ticks, 1 / across, (block) => bar(block, core * strip + 1, strip - 1));
+      const paint = ({ first, end }) => fill(first, end, core * strip + 1, strip - 1);
+      trackOf(RUNS, core, legal).visit(0, facts.ticks, 1 / across, paint);
     }
   }
   pen.globalAlpha = 1;
   pen.fillStyle = palette.late;
-  for (const job of lateJobs) pen.fillRect(job.deadline * across, height - 5, Math.max(2, (job.end - job.deadline) * across), 5);
+  for (const job of lateJobs) fill(job.deadline, job.end, height - 5, 5);
   if (facts.fault) pen.fillRect(faultTick() * across - 1, 0, 3, height);
 }
 
@@ -830,7 +825,8 @@ function linksOf(job) {
     const links = [];
     trackOf(FIRST, wait.res, true).visit(wait.first, wait.end, 1, ({ task, job: number, first, end }) => {
       if (task === job.task && number === job.number) return;
-      links.push({ task, job: number, res: wait.res, first: Math.max(first, wait.first), end: Math.min(end, wait.end) });
+      const [from, to] = [Math.max(first, wait.first), Math.min(end, wait.end)];
+      links.push({ task, job: number, res: wait.res, first: from, end: to });
     });
     return links;
   });
@@ -839,10 +835,8 @@ function linksOf(job) {
 function select(job) {
   state.selected = job;
   state.links = job ? linksOf(job) : [];
-  state.related = new Map();
-  if (job) {
-    for (const other of [{ task: job.task, job: job.number }, ...state.links]) state.related.set(keyOf(other.task, other.job), other);
-  }
+  state.related = new Set(state.links.map((link) => keyOf(link.task, link.job)));
+  if (job) state.related.add(keyOf(job.task, job.number));
   layOut();
 }
 
@@ -856,16 +850,14 @@ function say(text, job) {
   detail.append(`\nHeld: ${held.length ? held.slice(0, 20).join(', ') : 'nothing'}.`);
   detail.append(state.links.length ? ' Waited for: ' : ' It waited for no job.');
   state.links.slice(0, 20).forEach((link, place) => {
-    const words = `${jobText(link.task, link.job)} (${resName(link.res)}, ${timeText(link.first)} to ${timeText(link.end)})`;
+    const span = `${timeText(link.first)} to ${timeText(link.end)}`;
+    const words = `${jobText(link.task, link.job)} (${resName(link.res)}, ${span})`;
     detail.append(place ? ', ' : '', linkButton(words, () => showJob(jobOf(link.task, link.job), link.first)));
   });
 }
 
 function linkButton(words, act) {
-  const button = document.createElement('button');
-  button.type = 'button';
-  button.className = 'link';
-  button.textContent = words;
+  const button = element('button', words, 'link');
   button.addEventListener('click', act);
   return button;
 }
@@ -935,17 +927,22 @@ function element(name, text, className = '') {
   return made;
 }
 
+function verdictText() {
+  if (!facts.fault) return `A legal run: all ${plural(legalRows, 'row')} obey the plan`;
+  const [row, rule] = facts.fault;
+  return `Not a legal run: ${facts.broken ? `row ${row} violates rule ${rule}` : `after row ${row - 1}, rule ${rule} is violated`}`;
+}
+
 function writeHead() {
-  const rows = plural(legalRows, 'row');
-  const [row, rule] = facts.fault || [];
-  const sentence = facts.fault ? `Not a legal run: ${facts.broken ? `row ${row} violates rule ${rule}` : `rule ${rule} is violated after row ${row - 1}`}`
-    : `A legal run: all ${rows} obey the plan`;
-  byId('verdict').textContent = sentence;
-  byId('verdict').classList.toggle('fault', Boolean(facts.fault));
-  document.title = `MSRP trace: ${sentence}`;
+  const rows = `${plural(legalRows, 'row')}${facts.fault ? ' before the fault' : ''}`;
+  const { cores, tasks, resources, ticks } = facts;
+  const sizes = [[cores, 'core'], [tasks.length, 'task'], [resources.length, 'resource'], [ticks, 'tick']];
   const length = facts.unit ? `, ${timeText(facts.ticks)}` : '';
-  byId('size').textContent = `${plural(facts.cores, 'core')}, ${plural(facts.tasks.length, 'task')}, ${plural(facts.resources.length, 'resource')}, `
-    + `${plural(facts.ticks, 'tick')}${length}; ${plural(allJobs.length, 'job')}, ${lateJobs.length} late; ${facts.fault ? `${rows} before the fault` : rows}`;
+  byId('verdict').textContent = verdictText();
+  byId('verdict').classList.toggle('fault', Boolean(facts.fault));
+  document.title = `MSRP trace: ${verdictText()}`;
+  byId('size').textContent = `${sizes.map(([count, word]) => plural(count, word)).join(', ')}${length}; `
+    + `${plural(allJobs.length, 'job')}, ${lateJobs.length} late; ${rows}`;
   byId('why').replaceChildren(...facts.why.trimEnd().split('\n').map(whyLine));
   byId('corner').textContent = facts.unit ? 'time' : 'time (ticks)';
 }
@@ -966,8 +963,9 @@ function whyLine(text) {
 }
 
 function whyTarget([, row, tick, name, number]) {
-  if (row !== undefined) return () => (facts.fault && Number(row) === facts.fault[0] ? showFault() : showTick(Math.floor((row - 1) / facts.cores)));
-  if (tick !== undefined) return () => showTick(Number(tick));
+  if (row && facts.fault && Number(row) === facts.fault[0]) return showFault;
+  if (row) return () => showTick(Math.floor((row - 1) / facts.cores));
+  if (tick) return () => showTick(Number(tick));
   const job = jobOf(facts.tasks.findIndex((task) => task[0] === name), Number(number));
   return job ? () => showJob(job) : null;
 }
@@ -991,7 +989,7 @@ function bar(name, observed, bound, job) {
   fill.style.width = share(observed);
   over.style.left = share(bound);
   over.style.width = share(Math.max(0, observed - bound));
-  button.append(fill, over, element('span', facts.unit ? `${timeText(observed)} of ${timeText(bound)}` : `${observed} of ${bound}`, 'said'));
+  button.append(fill, over, element('span', `${timeText(observed)} of ${timeText(bound)}`, 'said'));
   button.setAttribute('aria-label', `${name}: ${observed} of ${bound} ticks`);
   button.disabled = !job;
   if (job) button.addEventListener('click', () => { showJob(job); canvas.focus(); });
@@ -1001,28 +999,29 @@ function bar(name, observed, bound, job) {
 function reportRow(task, number) {
   const [count, finished, late, worst, , spin, , blocked, spinBound, blockedBound] = facts.report[number];
   const own = jobs[number];
-  const wait = spin && allWaits.find((one) => one.task === number && one.spins === spin);
+  const wait = allWaits.find((one) => one.task === number && one.spins === spin);
+  const blockedJob = blocked ? own.find((job) => blockedRows(job) === blocked) : null;
   const lateOnes = own.filter(isLate);
-  const row = document.createElement('tr');
-  const cells = [
-    bar(`${task[0]}, worst response`, worst, task[2], worst ? own.find((job) => response(job) === worst) : null),
-    bar(`${task[0]}, longest spin`, spin, spinBound, wait ? own[wait.job] : null),
-    bar(`${task[0]}, longest blocking`, blocked, blockedBound, blocked ? own.find((job) => blockedRows(job) === blocked) : null),
-  ];
-  const lateCell = element('td', '', 'number');
   const lateCount = facts.fault ? lateOnes.length : late;
-  if (lateOnes.length) lateCell.append(linkButton(String(lateCount), () => showJob(lateOnes[0], lateOnes[0].deadline)));
-  else lateCell.textContent = String(lateCount);
-  if (lateCount) lateCell.classList.add('late');
-  row.append(element('th', task[0]), element('td', task[1], 'number'), element('td', `${finished} of ${count}`, 'number'), lateCell);
-  for (const cell of cells) row.append(element('td', ''));
-  cells.forEach((cell, place) => row.children[4 + place].append(cell));
+  const cells = [
+    element('th', task[0]), element('td', task[1], 'number'), element('td', `${finished} of ${count}`, 'number'),
+    element('td', lateOnes.length ? '' : lateCount, lateCount ? 'number late' : 'number'),
+    element('td', ''), element('td', ''), element('td', ''),
+  ];
+  if (lateOnes.length) cells[3].append(linkButton(lateCount, () => showJob(lateOnes[0], lateOnes[0].deadline)));
+  const slowest = worst ? own.find((job) => response(job) === worst) : null;
+  cells[4].append(bar(`${task[0]}, worst response`, worst, task[2], slowest));
+  cells[5].append(bar(`${task[0]}, longest spin`, spin, spinBound, spin && wait ? own[wait.job] : null));
+  cells[6].append(bar(`${task[0]}, longest blocking`, blocked, blockedBound, blockedJob));
+  const row = document.createElement('tr');
+  row.append(...cells);
   return row;
 }
 
 function writeReport() {
   byId('report').append(...facts.tasks.map(reportRow));
-  byId('report-note').textContent = `${facts.fault ? 'Only the rows before the fault count. ' : ''}A bar leads to the job. The bounds hold in every legal run of the plan.`;
+  byId('report-note').textContent = `${facts.fault ? 'Only the rows before the fault count. ' : ''}`
+    + 'A bar leads to the job. The bounds hold in every legal run of the plan.';
 }
 
 // The rows in sight, at most 240, as a table.
@@ -1047,8 +1046,9 @@ function writeTable() {
 function rowCells(tick, core, row) {
   const runs = trackOf(RUNS, core, true).at(tick);
   const deed = runs && trackOf(DOES, runs.task, true).at(tick);
+  const [job, res] = [runs ? jobText(runs.task, runs.job) : '-', deed && deed.res >= 0 ? resName(deed.res) : '-'];
   const time = facts.unit ? [timeText(tick)] : [];
-  return [tick, ...time, core, KINDS[deed ? deed.kind : 0], runs ? jobText(runs.task, runs.job) : '-', deed && deed.res >= 0 ? resName(deed.res) : '-', row, lineNumber(row) || '-'];
+  return [tick, ...time, core, KINDS[deed ? deed.kind : 0], job, res, row, lineNumber(row) || '-'];
 }
 
 // ---- what a user does
@@ -1096,16 +1096,19 @@ function pointerUp(event) {
 
 function wheel(event) {
   event.preventDefault();
-  if (event.shiftKey || Math.abs(event.deltaX) > Math.abs(event.deltaY)) return pan((event.deltaX || event.deltaY) / scale());
-  zoom(Math.exp(Math.max(-1, Math.min(1, event.deltaY / 300))), tickAt(event.clientX - canvas.getBoundingClientRect().left));
+  const { deltaX, deltaY } = event;
+  if (event.shiftKey || Math.abs(deltaX) > Math.abs(deltaY)) return pan((deltaX || deltaY) / scale());
+  const around = tickAt(event.clientX - canvas.getBoundingClientRect().left);
+  zoom(Math.exp(Math.max(-1, Math.min(1, deltaY / 300))), around);
 }
 
 // The next place in a lane, to the right or to the left: where a block begins.
 function nextTick(lane, tick, step) {
   const look = { core: RUNS, ceiling: CEILING, task: DOES, queue: FIRST }[lane.what];
   if (look === undefined) return tick;
-  const begins = [true, false].flatMap((legal) => trackOf(look, lane.number, legal).blocks.map(({ first }) => first)).sort((a, b) => a - b);
-  const next = step > 0 ? begins.find((first) => first > tick) : begins.findLast((first) => first < tick);
+  const blocks = [true, false].flatMap((legal) => trackOf(look, lane.number, legal).blocks);
+  const begins = blocks.map(({ first }) => first).sort((a, b) => a - b);
+  const next = step > 0 ? begins.find((first) => first > tick) : begins.filter((first) => first < tick).pop();
   return next === undefined ? tick : next;
 }
 
@@ -1126,7 +1129,8 @@ function moveCursor(across, down) {
 
 const KEYS = {
   '+': () => zoom(0.6), '=': () => zoom(0.6), '-': () => zoom(1 / 0.6), 0: () => setView(0, facts.ticks),
-  ArrowRight: () => moveCursor(1, 0), ArrowLeft: () => moveCursor(-1, 0), ArrowDown: () => moveCursor(0, 1), ArrowUp: () => moveCursor(0, -1),
+  ArrowRight: () => moveCursor(1, 0), ArrowLeft: () => moveCursor(-1, 0),
+  ArrowDown: () => moveCursor(0, 1), ArrowUp: () => moveCursor(0, -1),
   PageDown: () => pan((view.to - view.from) * 0.8), PageUp: () => pan((view.from - view.to) * 0.8),
   Home: () => pan(-facts.ticks), End: () => pan(facts.ticks),
   Enter: () => choose(state.cursor), Escape: () => { select(null); state.cursor = null; say(''); },
@@ -1148,8 +1152,12 @@ function mapMove(event) {
 }
 
 function listen() {
-  for (const button of document.querySelectorAll('[data-key]')) button.addEventListener('click', () => KEYS[button.dataset.key]());
-  Object.entries({ 'to-fault': facts.fault, 'to-late': lateJobs.length, 'to-wait': longestWait }).forEach(([name, is]) => { byId(name).disabled = !is; });
+  for (const button of document.querySelectorAll('[data-key]')) {
+    button.addEventListener('click', () => KEYS[button.dataset.key]());
+  }
+  byId('to-fault').disabled = !facts.fault;
+  byId('to-late').disabled = !lateJobs.length;
+  byId('to-wait').disabled = !longestWait;
   byId('to-tick').addEventListener('submit', (event) => {
     event.preventDefault();
     const tick = Number.parseInt(byId('tick').value, 10);
@@ -1166,7 +1174,9 @@ function listen() {
   canvas.addEventListener('wheel', wheel, { passive: false });
   canvas.addEventListener('keydown', keyDown);
   window.addEventListener('resize', layOut);
-  for (const query of ['print', '(prefers-color-scheme: dark)']) window.matchMedia(query).addEventListener('change', recolour);
+  for (const query of ['print', '(prefers-color-scheme: dark)']) {
+    window.matchMedia(query).addEventListener('change', recolour);
+  }
 }
 
 function recolour() {

@@ -11,7 +11,7 @@ mod data;
 mod page;
 mod units;
 
-pub use page::{Told, page};
+pub use page::{Told, html};
 pub use units::{TickLength, Unit};
 
 use msrp_plan::{Fault, Memory};

@@ -28,7 +28,7 @@ fn legal_rows(rows: &[Row], found: Verdict) -> &[Row] {
 }
 
 /// A page of a trace with that verdict on its rows.
-pub fn page(
+pub fn html(
     alloc: Global,
     plan: &Plan,
     rows: &[Row],

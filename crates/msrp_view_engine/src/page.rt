@@ -14,7 +14,7 @@ use crate::why_plan::bytes_of;
 use crate::words::answer_to;
 use msrp_audit::audit;
 use msrp_engine::{CliFault, Made, settled, write_answer};
-use msrp_page::{TickLength, Told, page};
+use msrp_page::{TickLength, Told, html};
 use msrp_plan::bytes::{Sink, Source};
 use msrp_plan::{Memory, Plan, Trace};
 use msrp_text::read_plan;
@@ -74,7 +74,7 @@ fn page_of_text(
         lines: lines.as_slice(),
         length,
     };
-    let text = page(alloc, plan, trace.rows.as_slice(), found, told)?;
+    let text = html(alloc, plan, trace.rows.as_slice(), found, told)?;
     Ok(Made { text, found })
 }
 
