@@ -139,7 +139,7 @@ const plural = (count, word) => `${count.toLocaleString('en')} ${word}${count ==
 function timeText(ticks) {
   if (!facts.unit) return String(ticks);
   const time = ticks * facts.unit[0] * UNITS.find(([name]) => name === facts.unit[1])[1];
-  const [unit, size] = UNITS.find(([, least]) => Math.abs(time) >= least) || ['ns', 1];
+  const [unit, size] = UNITS.find(([, least]) => Math.abs(time) >= least) || [facts.unit[1], 1];
   return `${Number((time / size).toPrecision(8))} ${unit}`;
 }
 
@@ -331,9 +331,11 @@ function zoom(factor, around = (view.from + view.to) / 2) {
 }
 
 const pan = (ticks) => setView(view.from + ticks, view.to + ticks);
-const scale = () => state.width / (view.to - view.from);
-const xOf = (tick) => (tick - view.from) * scale();
-const tickAt = (x) => view.from + x / scale();
+// Some room for arrows at both ends.
+const EDGE = 6;
+const scale = () => (state.width - 2 * EDGE) / (view.to - view.from);
+const xOf = (tick) => EDGE + (tick - view.from) * scale();
+const tickAt = (x) => view.from + (x - EDGE) / scale();
 
 // Brings a tick into sight, in a lane.
 function reveal(tick, lane) {

@@ -30,7 +30,7 @@ p { margin: 4px 0; }
 #size, #help, #report-note { color: var(--faint); }
 #why { font: 13px/1.5 ui-monospace, monospace; white-space: pre-wrap; overflow-wrap: anywhere; }
 #why p { margin: 0; }
-#why .missed::before { content: "\2013 "; }
+#why .missed::before { content: "\2013\00a0"; }
 button, input { font: inherit; color: inherit; }
 button { border: 1px solid var(--line); border-radius: 4px; background: var(--lane); padding: 2px 9px; cursor: pointer; }
 button:disabled { opacity: .45; cursor: default; }
@@ -150,7 +150,8 @@ const [QUEUE, SPIN] = [5, 6];
 const DEEDS = 'idles,runs,locks,unlocks,acquires,joins the queue of,spins on,acquires,releases'.split(',');
 
 // What a block of each look has after its first tick and its length.
-const FIELDS = 'task job,job kind res,job res,task job value,job value,job,value'.split(',').map((all) => all.split(' '));
+const FIELDS = [['task', 'job'], ['job', 'kind', 'res'], ['job', 'res'],
+  ['task', 'job', 'value'], ['job', 'value'], ['job'], ['value']];
 
 // The blocks of one look in a lane, in the order of their first ticks.
 class Track {
@@ -275,7 +276,7 @@ const plural = (count, word) => `${count.toLocaleString('en')} ${word}${count ==
 function timeText(ticks) {
   if (!facts.unit) return String(ticks);
   const time = ticks * facts.unit[0] * UNITS.find(([name]) => name === facts.unit[1])[1];
-  const [unit, size] = UNITS.find(([, least]) => Math.abs(time) >= least) || ['ns', 1];
+  const [unit, size] = UNITS.find(([, least]) => Math.abs(time) >= least) || [facts.unit[1], 1];
   return `${Number((time / size).toPrecision(8))} ${unit}`;
 }
 
@@ -467,9 +468,11 @@ function zoom(factor, around = (view.from + view.to) / 2) {
 }
 
 const pan = (ticks) => setView(view.from + ticks, view.to + ticks);
-const scale = () => state.width / (view.to - view.from);
-const xOf = (tick) => (tick - view.from) * scale();
-const tickAt = (x) => view.from + x / scale();
+// Some room for arrows at both ends.
+const EDGE = 6;
+const scale = () => (state.width - 2 * EDGE) / (view.to - view.from);
+const xOf = (tick) => EDGE + (tick - view.from) * scale();
+const tickAt = (x) => view.from + (x - EDGE) / scale();
 
 // Brings a tick into sight, in a lane.
 function reveal(tick, lane) {
@@ -656,6 +659,7 @@ const PAINTERS = [
     drawJobNumber(block, top + 16);
   },
   (block, top, lane) => {
+    if (scale() < 0.25) return;
     const height = Math.max(4, Math.floor(14 / lane.depth));
     drawBlock(block, top + 30 + block.value * height, height, hueOf(block.res), resName(block.res), '#000');
   },
@@ -930,7 +934,7 @@ function element(name, text, className = '') {
 function verdictText() {
   if (!facts.fault) return `A legal run: all ${plural(legalRows, 'row')} obey the plan`;
   const [row, rule] = facts.fault;
-  return `Not a legal run: ${facts.broken ? `row ${row} violates rule ${rule}` : `after row ${row - 1}, rule ${rule} is violated`}`;
+  return `Not a legal run: ${facts.broken ? `row ${row} violates` : `after row ${row - 1} the trace violates`} rule ${rule}`;
 }
 
 function writeHead() {
