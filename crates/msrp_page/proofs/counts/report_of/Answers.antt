@@ -1,11 +1,10 @@
 use Rattle.std.proofs.Common.{◌≡◌, ◌+◌, ◌++◌, ◌∷◌, ◌∙◌, is_err}
-use Rattle.msrp_plan.proofs.Common.{rules, ℕ, Bool, true, false, List, [], None, Option, Ok, PlanModel, Result, Some, ⊤, ap, arith, drop, fault_in, option_or, refl, subst, sym, take, take_all, take-append-drop, true≢false}
+use Rattle.msrp_plan.proofs.Common.{rules, ℕ, true, false, List, [], None, Option, PlanModel, Result, Some, ⊤, ap, drop, fault_in, option_or, refl, subst, sym, take, take-append-drop, true≢false}
 use Rattle.msrp_plan.proofs.Runs.Verdicts.{fault_append}
 use Rattle.msrp_plan.specs.declared.faults.Fault.{Fault}
 use Rattle.msrp_plan.specs.declared.rows.Row.{Row}
 use Rattle.msrp_audit.specs.Audits.{HasFed, answer_of}
 use Rattle.msrp_audit.proofs.Scanning.{one_more}
-use Rattle.msrp_report.specs.Lines.{lines_of}
 use Rattle.msrp_report.specs.Reports.{HasCounted}
 use Rattle.msrp_page.proofs.counts.report_of.Goals as goal
 

@@ -1,7 +1,6 @@
 use Rattle.std.proofs.Common.{◌≡◌, ◌∙◌}
-use Rattle.msrp_plan.proofs.Common.{Bool, true, false, Result, Ok, Err, refl, subst, sym, inl, inr, PlanModel}
-use Rattle.msrp_text.specs.Reading.{Answers, csv_records, plan_of}
-use Rattle.msrp_text.specs.declared.reading.TextError.{TextError}
+use Rattle.msrp_plan.proofs.Common.{subst, sym, inl, inr}
+use Rattle.msrp_text.specs.Reading.{csv_records, plan_of}
 use Rattle.msrp_trace.specs.Reading.{rows_of}
 use Rattle.msrp_engine.specs.Answered.{OrUnread}
 use Rattle.msrp_engine.specs.MadeTexts.{found_in}
