@@ -1,7 +1,6 @@
 //! The page around the data. `.ci/page --write` makes this file of `page/`.
 
-pub(crate) const HEAD: &str =
-    r#"<!doctype html>
+pub(crate) const HEAD: &str = r#"<!doctype html>
 <html lang="en">
 <head>
 <meta charset="utf-8">
@@ -132,8 +131,7 @@ Enter or click: light up a job and the jobs it waited for. Escape: clear. F: fau
 <noscript>This page needs JavaScript, which draws the picture. It loads nothing.</noscript>
 <script type="application/json" id="facts">"#;
 
-pub(crate) const TAIL: &str =
-    r#"</script>
+pub(crate) const TAIL: &str = r#"</script>
 <script>
 'use strict';
 // Draws the facts that the program wrote into this page. It judges nothing. Times are ticks. Names are data: they are

@@ -1,8 +1,8 @@
 //! The data of a page: a JSON object. Blocks and events are written in groups of one kind and lane, a flat list each, in which
 //! a tick is told by its distance from the one before; `docs/EXPORTS.md` has the form.
 
-use crate::{Added, Verdict};
 use crate::units::TickLength;
+use crate::{Added, Verdict};
 use msrp_levels::Levels;
 use msrp_picture::{Block, Event, Lane, Look, Moment, Shapes};
 use msrp_plan::{JobId, Kind, Plan, ResId, Row, TaskId};
@@ -239,7 +239,8 @@ impl Data {
     fn tick(&mut self, group: (u32, u32, bool), tick: u64, is_judged: bool) -> Added {
         if self.group != Some(group) || tick < self.last {
             let (what, lane, is_legal) = group;
-            self.text.push_str(if self.group.is_some() { "],[" } else { "[" })?;
+            self.text
+                .push_str(if self.group.is_some() { "],[" } else { "[" })?;
             write!(self.text, "{what},{lane}")?;
             if is_judged {
                 write!(self.text, ",{}", u32::from(is_legal))?;
@@ -253,9 +254,16 @@ impl Data {
 
     // A block: its first tick, its length, and what its look needs.
     fn block(&mut self, block: &Block) -> Added {
-        let group = (look_number(block.look), lane_number(block.lane), block.is_legal);
+        let group = (
+            look_number(block.look),
+            lane_number(block.lane),
+            block.is_legal,
+        );
         self.tick(group, block.first, true)?;
-        let (length, (task, k)) = (block.end.saturating_sub(block.first), job_numbers(block.job));
+        let (length, (task, k)) = (
+            block.end.saturating_sub(block.first),
+            job_numbers(block.job),
+        );
         let (task, res) = (task.saturating_sub(1), place_of(block.res));
         write!(self.text, ",{length}")?;
         match block.look {

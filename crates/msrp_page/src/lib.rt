@@ -11,10 +11,9 @@ mod data;
 mod page;
 mod units;
 
+use msrp_plan::{Fault, Memory};
 pub use page::{Told, html};
 pub use units::{TickLength, Unit};
-
-use msrp_plan::{Fault, Memory};
 
 /// What is answered where something is added: nothing, or that memory ran out.
 type Added = Result<(), Memory>;

@@ -93,7 +93,8 @@ const PERFETTO_HELP: &str = "trace events (JSON) of the whole trace, for ui.perf
 
 const HTML_HELP: &str = "page for a browser: the verdict and its reasons, a timeline, a report";
 
-const TICK_HELP: &str = "length of a tick, for the times of the page, such as 10us; units: ns, us, ms, s";
+const TICK_HELP: &str =
+    "length of a tick, for the times of the page, such as 10us; units: ns, us, ms, s";
 
 const PLAN_HELP: &str = "path of the plan; - is standard input";
 

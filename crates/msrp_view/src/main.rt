@@ -10,8 +10,8 @@ use cli::{Cmd, View, command_of, help_text, length_of, usage_text};
 use msrp_cli::{open, open_both, words_of};
 use msrp_engine::{CliFault, exit_of, write_answer};
 use msrp_hints::{NOT_UTF8, Paths, are_wanted, hint_on};
-use msrp_plan::bytes::{Sink, Source};
 use msrp_page::TickLength;
+use msrp_plan::bytes::{Sink, Source};
 use msrp_view_engine::{export_text, page_text, view_text, why_plan_text, why_text};
 use std::alloc::Global;
 use std::io::{BufWriter, Read, Write};
@@ -124,7 +124,10 @@ fn reason(
     };
     let (view, plan, trace) = match command_of(alloc, words.as_slice())? {
         Cmd::Show {
-            view, plan, trace, ..
+            view,
+            plan,
+            trace,
+            ..
         } => (view, plan, Some(trace)),
         Cmd::WhyPlan { plan } => (View::Why, plan, None),
         Cmd::Help | Cmd::Version => return Ok(String::new(alloc)),
