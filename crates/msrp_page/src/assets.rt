@@ -638,7 +638,7 @@ function drawLane(lane, top) {
   context.fillRect(0, Math.round(top), state.width, 1);
   context.font = FONT;
   context.textAlign = 'left';
-  const least = 2.5 / scale();
+  const least = 3 / scale();
   const paint = (block) => PAINTERS[block.look](block, top, lane);
   for (const track of lane.layers) track.visit(view.from, view.to, least, paint);
   if (lane.what === 'task') drawArrows(lane, top);
@@ -685,7 +685,7 @@ function drawJobNumber(block, top) {
 function drawArrows(lane, top) {
   const [last, marks, all] = [[-9, -9, -9], [[], []], jobs[lane.number]];
   const inSight = all.slice(firstJob(all), firstLater(all));
-  if (inSight.length > state.width / 12) return;
+  if (inSight.length > state.width / 24) return;
   for (const { task, number, release, deadline, end, finished } of inSight) {
     const lit = !state.selected || state.related.has(keyOf(task, number));
     [release, deadline, finished ? end : -1].forEach((tick, moment) => {
