@@ -1,6 +1,9 @@
 //! The data of a page: a JSON object. Blocks and events are written in groups of one kind and lane, a flat list each, in which
 //! a tick is told by its distance from the one before; `docs/EXPORTS.md` has the form.
 
+ghost use Rattle.std.specs.Prelude.{◌≡◌, ◌<◌};
+ghost use Rattle.msrp_plan.specs.Common.{length};
+
 use crate::units::TickLength;
 use crate::{Added, Verdict};
 use msrp_levels::Levels;
@@ -90,7 +93,7 @@ impl Data {
     fn byte(&mut self, byte: u8) -> Added {
         if byte < 32 || byte > 126 || byte == b'"' || byte == b'\\' || byte == b'<' {
             self.text.push_str("\\u00")?;
-            self.text.push_str(DIGITS[(byte / 16) as usize])?;
+            self.text.push_str(DIGITS[(byte / 16 % 16) as usize])?;
             self.text.push_str(DIGITS[(byte % 16) as usize])?;
             return Ok(());
         }
@@ -118,7 +121,10 @@ impl Data {
         Ok(())
     }
 
-    fn task(&mut self, plan: &Plan, levels: &Levels<'_>, task: TaskId) -> Added {
+    fn task(&mut self, plan: &Plan, levels: &Levels<'_>, task: TaskId) -> Added
+        requires levels { levels.now ≡ plan.now }
+        requires task { task.0 < length plan.now.tasks }
+    {
         self.text.push_str(if task.0 == 0 { "[" } else { ",[" })?;
         self.string(plan.task_name(task).as_bytes())?;
         let (core, deadline) = (plan.core_of(task).0, plan.deadline(task));
@@ -127,7 +133,9 @@ impl Data {
     }
 
     /// The name, the core, the relative deadline and the preemption level of each task.
-    pub(crate) fn tasks(&mut self, plan: &Plan, levels: &Levels<'_>) -> Added {
+    pub(crate) fn tasks(&mut self, plan: &Plan, levels: &Levels<'_>) -> Added
+        requires { levels.now ≡ plan.now }
+    {
         self.text.push_str(",\"tasks\":[")?;
         for task in 0..plan.tasks() {
             self.task(plan, levels, TaskId(task))?;
@@ -136,7 +144,10 @@ impl Data {
         Ok(())
     }
 
-    fn resource(&mut self, plan: &Plan, levels: &Levels<'_>, res: ResId) -> Added {
+    fn resource(&mut self, plan: &Plan, levels: &Levels<'_>, res: ResId) -> Added
+        requires levels { levels.now ≡ plan.now }
+        requires resource { res.0 < length plan.now.resources }
+    {
         self.text.push_str(if res.0 == 0 { "[" } else { ",[" })?;
         self.string(plan.res_name(res).as_bytes())?;
         write!(self.text, ",{}]", u32::from(levels.is_global(res)))?;
@@ -144,7 +155,9 @@ impl Data {
     }
 
     /// The name of each resource, and whether it is global.
-    pub(crate) fn resources(&mut self, plan: &Plan, levels: &Levels<'_>) -> Added {
+    pub(crate) fn resources(&mut self, plan: &Plan, levels: &Levels<'_>) -> Added
+        requires { levels.now ≡ plan.now }
+    {
         self.text.push_str(",\"resources\":[")?;
         for res in 0..plan.resources() {
             self.resource(plan, levels, ResId(res))?;
