@@ -810,7 +810,9 @@ function writeHead() {
   document.title = `MSRP trace: ${verdictText()}`;
   byId('size').textContent = `${sizes.map(([count, word]) => plural(count, word)).join(', ')}${length}; `
     + `${plural(allJobs.length, 'job')}, ${lateJobs.length} late; ${rows}`;
-  byId('why').replaceChildren(...facts.why.trimEnd().split('\n').map(whyLine));
+  const reasons = facts.why.trimEnd().split('\n').map(whyLine);
+  byId('why').replaceChildren(...reasons);
+  byId('reasons').open = Boolean(facts.fault) || reasons.length < 12;
   byId('corner').textContent = facts.unit ? 'time' : 'time (ticks)';
 }
 

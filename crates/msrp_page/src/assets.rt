@@ -81,7 +81,7 @@ td.number, th.number { text-align: right; font-variant-numeric: tabular-nums; }
 <header>
 <h1 id="verdict"></h1>
 <p id="size"></p>
-<details id="reasons" open><summary>Why</summary><div id="why"></div></details>
+<details id="reasons" open><summary>Why, and what the run didn't exercise</summary><div id="why"></div></details>
 </header>
 <main>
 <section aria-labelledby="timeline-head">
@@ -945,7 +945,9 @@ function writeHead() {
   document.title = `MSRP trace: ${verdictText()}`;
   byId('size').textContent = `${sizes.map(([count, word]) => plural(count, word)).join(', ')}${length}; `
     + `${plural(allJobs.length, 'job')}, ${lateJobs.length} late; ${rows}`;
-  byId('why').replaceChildren(...facts.why.trimEnd().split('\n').map(whyLine));
+  const reasons = facts.why.trimEnd().split('\n').map(whyLine);
+  byId('why').replaceChildren(...reasons);
+  byId('reasons').open = Boolean(facts.fault) || reasons.length < 12;
   byId('corner').textContent = facts.unit ? 'time' : 'time (ticks)';
 }
 
