@@ -81,7 +81,7 @@ td.number, th.number { text-align: right; font-variant-numeric: tabular-nums; }
 <header>
 <h1 id="verdict"></h1>
 <p id="size"></p>
-<details id="reasons" open><summary>Why, and what the run didn't exercise</summary><div id="why"></div></details>
+<details id="reasons" open><summary>Reasons</summary><div id="why"></div></details>
 </header>
 <main>
 <section aria-labelledby="timeline-head">
