@@ -1,5 +1,5 @@
 -- The arguments that the program takes, as the parser is told of them, and what they ask for.
-use Rattle.msrp_plan.specs.Common.{ℕ, Bool, true, false, nat_lt, length, List, [], Option, Some, None, codes, Ok, Err, is_ascii_digit, list_all, Result}
+use Rattle.msrp_plan.specs.Common.{ℕ, Bool, true, false, nat_lt, length, List, [], Option, Some, None, codes, option_map, Ok, Err, is_ascii_digit, list_all, Result}
 use Rattle.std.specs.Prelude.{◌≡◌, ◌&&◌, ◌||◌, ◌^◌, ◌∷◌, if◌then◌else◌, MatchResult}
 use Rattle.std.specs.Str.Parse.{digits_value}
 use Rattle.clap.specs.Words.{App, IsAmong, Kinds, Row, Rule, Text, app_of, first_of, new_app, new_rule, with_rule}
@@ -14,7 +14,7 @@ use Rattle.msrp_view.specs.declared.cli.Cmd.TheVariants.{Help, Version, Show, Wh
 use Rattle.msrp_picture.specs.declared.windows.Asked.{Asked}
 use Rattle.msrp_picture.specs.declared.windows.Style.{Style}
 use Rattle.msrp_view.specs.declared.cli.View.{View}
-use Rattle.msrp_view.specs.declared.cli.View.TheVariants.{Export, Picture, Why}
+use Rattle.msrp_view.specs.declared.cli.View.TheVariants.{Export, Page, Picture, Why}
 use Rattle.clap.specs.declared.builder.action.ArgAction.TheVariants as action
 use Rattle.msrp_export.specs.declared.formats.Format.TheVariants as format
 use Rattle.msrp_picture.specs.declared.windows.Style.TheVariants as style
@@ -38,7 +38,8 @@ grammar =
     let flags = with_rule (with_rule program (flag (codes "text"))) (flag (codes "svg")) in
     let ticks = with_rule (with_rule flags (valued (codes "from"))) (valued (codes "to")) in
     let others = with_rule (with_rule (with_rule ticks (flag (codes "why"))) (flag (codes "vcd"))) (flag (codes "perfetto")) in
-    with_rule (with_rule (with_rule others version) (wanted (codes "PLAN"))) (optional (codes "TRACE"))
+    let pages = with_rule (with_rule others (flag (codes "html"))) (valued (codes "tick")) in
+    with_rule (with_rule (with_rule pages version) (wanted (codes "PLAN"))) (optional (codes "TRACE"))
 
 -- the parser was told of these arguments
 abbrev pub Takes : App → Command → Type 0
@@ -74,17 +75,20 @@ asked_of rows = asked_by (style_of (is_given (codes "text") rows) (is_given (cod
 abbrev pub says_picture : List Row → Bool
 says_picture rows = is_given (codes "text") rows || (is_given (codes "svg") rows || (is_given (codes "from") rows || is_given (codes "to") rows))
 
--- words, a format or a picture: only one of them
-abbrev pub view_by : Bool → Bool → Bool → Bool → Result Asked CliFault → Result View CliFault
-view_by true false false false asked = Ok Why
-view_by false true false false asked = Ok (Export format.Vcd)
-view_by false false true false asked = Ok (Export format.Perfetto)
-view_by false false false picture (Ok asked) = Ok (Picture asked)
-view_by false false false picture (Err fault) = Err fault
-view_by _ _ _ _ asked = Err Usage
+-- words, a format, a page or a picture: only one of them, and the length of a tick only for a page
+abbrev pub view_by : Bool → Bool → Bool → Bool → Bool → Bool → Result Asked CliFault → Result View CliFault
+view_by true false false false false false asked = Ok Why
+view_by false true false false false false asked = Ok (Export format.Vcd)
+view_by false false true false false false asked = Ok (Export format.Perfetto)
+view_by false false false true false tick asked = Ok Page
+view_by false false false false picture false (Ok asked) = Ok (Picture asked)
+view_by false false false false picture false (Err fault) = Err fault
+view_by _ _ _ _ _ _ asked = Err Usage
 
 abbrev pub view_of : List Row → Result View CliFault
-view_of rows = view_by (is_given (codes "why") rows) (is_given (codes "vcd") rows) (is_given (codes "perfetto") rows) (says_picture rows) (asked_of rows)
+view_of rows =
+    view_by (is_given (codes "why") rows) (is_given (codes "vcd") rows) (is_given (codes "perfetto") rows) (is_given (codes "html") rows) (says_picture rows) (is_given (codes "tick") rows)
+    (asked_of rows)
 
 -- ---- answers
 -- a plan alone is to be explained
@@ -92,9 +96,10 @@ abbrev pub explains_plan : View → Option Text → Bool
 explains_plan Why None = true
 explains_plan _ _ = false
 
--- the command shows that; it is a usage fault where a path is missing, or both are standard input
+-- the command shows that, with the length of a tick if it is given; it is a usage fault where a path is missing, or both are standard input
 abbrev pub IsShown : View → List Row → Result Cmd CliFault → Type 0
-IsShown view rows (Ok (Show v plan trace)) = (v ≡ view) × (explains_plan view (first_of (codes "TRACE") rows) ≡ false) × (paths_of rows ≡ Some (plan.now, trace.now))
+IsShown view rows (Ok (Show v plan trace tick)) =
+    (v ≡ view) × (explains_plan view (first_of (codes "TRACE") rows) ≡ false) × (paths_of rows ≡ Some (plan.now, trace.now)) × (option_map (λ word. word.now) tick ≡ first_of (codes "tick") rows)
 IsShown view rows (Ok (WhyPlan plan)) = (explains_plan view (first_of (codes "TRACE") rows) ≡ true) × (first_of (codes "PLAN") rows ≡ Some plan.now)
 IsShown view rows (Ok Help) = ⊥
 IsShown view rows (Ok Version) = ⊥

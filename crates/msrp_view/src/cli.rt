@@ -12,6 +12,7 @@ use msrp_cli::{
 };
 use msrp_engine::CliFault;
 use msrp_export::Format;
+use msrp_page::{TickLength, Unit};
 use msrp_picture::{Asked, Style};
 use std::alloc::{AllocError, Global};
 
@@ -24,16 +25,19 @@ pub enum View {
     Why,
     /// The whole trace, in a format of another tool.
     Export(Format),
+    /// A page for a browser.
+    Page,
 }
 
 /// A command, with its arguments. A path `-` is standard input.
 #[derive(Clone, Copy, Debug, PartialEq, Eq)]
 pub enum Cmd<'a> {
-    /// Shows a trace of the plan.
+    /// Shows a trace of the plan; where the length of a tick is given, with times.
     Show {
         view: View,
         plan: &'a str,
         trace: &'a str,
+        tick: Option<&'a str>,
     },
     /// Says in words why the plan is refused, or what is odd in it.
     WhyPlan {
@@ -60,6 +64,10 @@ const VCD: &str = "vcd";
 
 const PERFETTO: &str = "perfetto";
 
+const HTML: &str = "html";
+
+const TICK: &str = "tick";
+
 const VERSION: &str = "version";
 
 // What the help says of each.
@@ -82,6 +90,11 @@ const WHY_HELP: &str =
 const VCD_HELP: &str = "value change dump of the whole trace, for GTKWave and other wave viewers";
 
 const PERFETTO_HELP: &str = "trace events (JSON) of the whole trace, for ui.perfetto.dev";
+
+const HTML_HELP: &str = "page for a browser: the verdict and its reasons, a timeline, a report";
+
+const TICK_HELP: &str =
+    "length of a tick, for the times of the page, such as 10us; units: ns, us, ms, s";
 
 const PLAN_HELP: &str = "path of the plan; - is standard input";
 
@@ -126,6 +139,8 @@ fn grammar<'a>(alloc: Global) -> Result<Command<'a>, AllocError>
     let made = with_arg(made, flag(alloc, WHY, WHY_HELP));
     let made = with_arg(made, flag(alloc, VCD, VCD_HELP));
     let made = with_arg(made, flag(alloc, PERFETTO, PERFETTO_HELP));
+    let made = with_arg(made, flag(alloc, HTML, HTML_HELP));
+    let made = with_arg(made, valued(alloc, TICK, "LENGTH", TICK_HELP));
     let made = with_arg(made, version(alloc));
     let made = with_arg(made, path(alloc, PLAN, PLAN_HELP));
     with_arg(made, optional(alloc, TRACE, TRACE_HELP))
@@ -205,12 +220,14 @@ fn view_of(matches: &ArgMatches<'_>) -> Result<View, CliFault>
     let why = is_given(matches, WHY);
     let vcd = is_given(matches, VCD);
     let perfetto = is_given(matches, PERFETTO);
+    let (html, tick) = (is_given(matches, HTML), is_given(matches, TICK));
     let picture = says_picture(matches);
-    match (why, vcd, perfetto, picture) {
-        (true, false, false, false) => Ok(View::Why),
-        (false, true, false, false) => Ok(View::Export(Format::Vcd)),
-        (false, false, true, false) => Ok(View::Export(Format::Perfetto)),
-        (false, false, false, _) => Ok(View::Picture(asked_of(matches)?)),
+    match (why, vcd, perfetto, html, picture, tick) {
+        (true, false, false, false, false, false) => Ok(View::Why),
+        (false, true, false, false, false, false) => Ok(View::Export(Format::Vcd)),
+        (false, false, true, false, false, false) => Ok(View::Export(Format::Perfetto)),
+        (false, false, false, true, false, _) => Ok(View::Page),
+        (false, false, false, false, _, false) => Ok(View::Picture(asked_of(matches)?)),
         _ => Err(CliFault::Usage),
     }
 }
@@ -234,7 +251,12 @@ fn shown_of<'a>(view: View, matches: &ArgMatches<'a>) -> Result<Cmd<'a>, CliFaul
         };
     }
     let (plan, trace) = both_paths(matches)?;
-    Ok(Cmd::Show { view, plan, trace })
+    Ok(Cmd::Show {
+        view,
+        plan,
+        trace,
+        tick: value_of(matches, TICK),
+    })
 }
 
 // The command that the arguments ask for.
@@ -271,12 +293,48 @@ pub fn command_of<'a>(alloc: Global, words: &'a [String]) -> Result<Cmd<'a>, Cli
     }
 }
 
+// The unit of a text that ends with one, and what is before it.
+fn unit_in(word: &str) -> Option<(&str, Unit)> {
+    let units = [
+        Unit::Nanosecond,
+        Unit::Microsecond,
+        Unit::Millisecond,
+        Unit::Second,
+    ];
+    for unit in units {
+        if let Some(count) = word.strip_suffix(unit.name()) {
+            return Some((count, unit));
+        }
+    }
+    None
+}
+
+/// The length of a tick, if it is given: a whole number above 0, and a unit.
+pub fn length_of(word: Option<&str>) -> Result<Option<TickLength>, CliFault>
+    ensures usage { IfErr result (λ fault. fault ≡ CliFault.Usage) }
+{
+    let Some(word) = word else {
+        return Ok(None);
+    };
+    let Some((count, unit)) = unit_in(word) else {
+        return Err(CliFault::Usage);
+    };
+    match tick_of(Some(count))? {
+        Some(count) if count > 0 => Ok(Some(TickLength { count, unit })),
+        _ => Err(CliFault::Usage),
+    }
+}
+
 // Why arguments that the parser takes are no command, or none for this plan.
 fn misuse_in(matches: &ArgMatches<'_>) -> &'static str {
     let from = tick_of(value_of(matches, FROM));
     let to = tick_of(value_of(matches, TO));
+    let tick = length_of(value_of(matches, TICK));
     match view_of(matches) {
         _ if from.is_err() || to.is_err() => "error: --from and --to take whole numbers\n",
+        _ if tick.is_err() => {
+            "error: --tick takes a whole number with a unit: ns, us, ms or s, such as 10us\n"
+        }
         Err(_) => "error: these options can't be combined\n",
         Ok(view) if shown_of(view, matches).is_err() => {
             "error: give a plan and a trace, not both from standard input (-); only --why works without a trace\n"

@@ -6,12 +6,13 @@
 
 mod cli;
 
-use cli::{Cmd, View, command_of, help_text, usage_text};
+use cli::{Cmd, View, command_of, help_text, length_of, usage_text};
 use msrp_cli::{open, open_both, words_of};
 use msrp_engine::{CliFault, exit_of, write_answer};
 use msrp_hints::{NOT_UTF8, Paths, are_wanted, hint_on};
+use msrp_page::TickLength;
 use msrp_plan::bytes::{Sink, Source};
-use msrp_view_engine::{export_text, view_text, why_plan_text, why_text};
+use msrp_view_engine::{export_text, page_text, view_text, why_plan_text, why_text};
 use std::alloc::Global;
 use std::io::{BufWriter, Read, Write};
 use std::process::ExitCode;
@@ -41,6 +42,7 @@ fn release_info(rt: &HostRuntime) -> Option<Vec<u8>> {
 fn show<P: Read, T: Read, W: Write>(
     alloc: Global,
     view: View,
+    length: Option<TickLength>,
     plan: &mut Source<P>,
     trace: &mut Source<T>,
     out: &mut Sink<W>,
@@ -49,6 +51,7 @@ fn show<P: Read, T: Read, W: Write>(
         View::Picture(asked) => view_text(alloc, plan, trace, out, asked),
         View::Why => why_text(alloc, plan, trace, out),
         View::Export(format) => export_text(alloc, plan, trace, out, format),
+        View::Page => page_text(alloc, plan, trace, out, length),
     }
 }
 
@@ -69,11 +72,18 @@ fn answer<W: Write>(rt: &HostRuntime, cmd: Cmd<'_>, out: &mut Sink<W>) -> Result
             let name = if plan == "-" { STANDARD_INPUT } else { plan };
             why_plan_text(alloc, name, &mut Source::new(open(rt, plan)?), out)
         }
-        Cmd::Show { view, plan, trace } => {
+        Cmd::Show {
+            view,
+            plan,
+            trace,
+            tick,
+        } => {
+            let length = length_of(tick)?;
             let (plan, trace) = open_both(rt, plan, trace)?;
             show(
                 alloc,
                 view,
+                length,
                 &mut Source::new(plan),
                 &mut Source::new(trace),
                 out,
@@ -113,7 +123,12 @@ fn reason(
         Err(fault) => return Err(*fault),
     };
     let (view, plan, trace) = match command_of(alloc, words.as_slice())? {
-        Cmd::Show { view, plan, trace } => (view, plan, Some(trace)),
+        Cmd::Show {
+            view,
+            plan,
+            trace,
+            ..
+        } => (view, plan, Some(trace)),
         Cmd::WhyPlan { plan } => (View::Why, plan, None),
         Cmd::Help | Cmd::Version => return Ok(String::new(alloc)),
     };

@@ -71,6 +71,20 @@ IsPictureOf plan records asked made = found_in made ≡ picture_found plan recor
 abbrev pub ViewAnswers : {W : Type 0} → Result PlanModel TextError → List (List (List ℕ)) → Asked → Sink W → Sink W → Result ℕ CliFault → Type 0
 ViewAnswers plan records asked old new result = Tells (picture_found plan records asked) old new result
 
+-- ---- pages
+-- what is found in a text that stands for a plan, or in one that is refused, and in the records of a trace's text
+abbrev pub page_found : Result PlanModel TextError → List (List (List ℕ)) → Result (Result ⊤ Fault) CliFault
+page_found (Ok plan) records = verdict_on plan (rows_read (rows_of plan records))
+page_found (Err error) records = Err (fault_of error)
+
+-- the page in memory comes with that
+abbrev pub IsPageOf : Result PlanModel TextError → List (List (List ℕ)) → Result Made CliFault → Type 0
+IsPageOf plan records made = found_in made ≡ page_found plan records
+
+-- the answer where the page is written
+abbrev pub PageAnswers : {W : Type 0} → Result PlanModel TextError → List (List (List ℕ)) → Sink W → Sink W → Result ℕ CliFault → Type 0
+PageAnswers plan records old new result = Tells (page_found plan records) old new result
+
 -- ---- exports
 -- the answer where that is found: the status of a verdict if the sink took all, and a refusal in any case
 abbrev pub export_answer : {W : Type 0} → Result (Result ⊤ Fault) CliFault → Sink W → Result ℕ CliFault

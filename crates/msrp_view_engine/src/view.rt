@@ -20,8 +20,8 @@ use msrp_trace::TraceReader;
 use std::alloc::Global;
 use std::io::{Read, Write};
 
-// All rows that a reader has left.
-fn gather_rows<T: Read>(
+/// All rows that a reader has left.
+pub(crate) fn gather_rows<T: Read>(
     rows: &mut TraceReader<'_, T>,
     mut gathered: Vec<Row>,
 ) -> Result<Trace, CliFault>

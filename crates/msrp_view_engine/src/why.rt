@@ -235,8 +235,8 @@ fn explain_rows<T: Read>(
     }
 }
 
-// The words on a trace of an accepted plan. Whatever ends the reading early may be told as a failed read.
-fn explain_all<T: Read>(
+/// The words on a trace of an accepted plan. Whatever ends the reading early may be told as a failed read.
+pub(crate) fn explain_all<T: Read>(
     alloc: Global,
     plan: &Plan,
     trace: &mut Source<T>,

@@ -19,8 +19,8 @@ use msrp_text::{TextError, read_plan};
 use std::alloc::Global;
 use std::io::{Read, Write};
 
-// All bytes of a text.
-fn bytes_of<P: Read>(alloc: Global, text: &mut Source<P>) -> Result<Vec<u8>, CliFault>
+/// All bytes of a text.
+pub(crate) fn bytes_of<P: Read>(alloc: Global, text: &mut Source<P>) -> Result<Vec<u8>, CliFault>
     ensures bytes { (bytes : List ℕ) → source_remaining P.remaining text.old ≡ Some bytes → IfOk result (λ all. all.items ≡ bytes) }
     ensures faults { IfErr result (λ fault. (fault ≡ CliFault.Read) ⊎ (fault ≡ CliFault.Memory)) }
     ensures read { result ≡ Err CliFault.Read → source_failed text.new ≡ true }

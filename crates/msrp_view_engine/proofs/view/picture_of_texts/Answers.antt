@@ -1,12 +1,12 @@
 use Rattle.std.proofs.Common.{◌≡◌, ◌∙◌}
-use Rattle.msrp_plan.proofs.Common.{Bool, true, false, Result, Ok, Err, refl, subst, sym, inl, inr, PlanModel}
-use Rattle.msrp_text.specs.Reading.{Answers, csv_records, plan_of}
-use Rattle.msrp_text.specs.declared.reading.TextError.{TextError}
+use Rattle.msrp_plan.proofs.Common.{subst, sym, inl, inr}
+use Rattle.msrp_text.specs.Reading.{csv_records, plan_of}
 use Rattle.msrp_trace.specs.Reading.{rows_of}
 use Rattle.msrp_engine.specs.Answered.{OrUnread}
 use Rattle.msrp_engine.specs.MadeTexts.{found_in}
 use Rattle.msrp_engine.proofs.Answered.{settled_from_plan}
 use Rattle.msrp_view_engine.specs.Answers.{IsPictureOf, found_within}
+use Rattle.msrp_view_engine.proofs.ReadThrough.{not_failed, not_refused}
 use Rattle.msrp_view_engine.proofs.view.picture_of_texts.Goals as goal
 
 pub returns-clause-found : goal.returns-clause-found
@@ -15,17 +15,6 @@ returns-clause-found g c = λ plan_bytes trace_bytes plan trace.
     let made = c.picture_of-made.result in
     let drawn = subst (λ w. OrUnread made (found_in made ≡ found_within c.in_ok-plan.plan (rows_of c.in_ok-plan.plan records) w)) (sym (sym c.window_of.ensures ∙ c.in-Some.is)) (c.picture_of-made.ensures.found trace_bytes trace) in
     settled_from_plan (λ read answer. IsPictureOf read records c.args.asked answer) c.in_ok-plan.plan (plan_of (csv_records plan_bytes)) made c.settled.result (c.in_ok-plan.ensures.answer plan_bytes plan) c.settled.ensures.same drawn
-
--- a plan that was read is accepted
-not_refused : (plan : PlanModel) (expected : Result PlanModel TextError) (error : TextError) → Answers (Ok plan) expected → expected ≡ Err error → ⊥
-not_refused plan expected error answers refused = elim answers [
-  | inl e ↦ absurd (cc)
-  | inr k ↦ elim k [ inl e ↦ absurd (cc) | inr e ↦ absurd (cc) ]
-]
-
-not_failed : (failed : Bool) → (failed ≡ true → ⊥) → failed ≡ false
-not_failed true h = absurd (h refl)
-not_failed false h = refl
 
 pub returns-clause-reads : goal.returns-clause-reads
 returns-clause-reads g c = record {
