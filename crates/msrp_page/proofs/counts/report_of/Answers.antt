@@ -48,3 +48,13 @@ loop-row-preserved c =
       fed = subst (HasFed c.feed.new.self) (sym more) (c.feed.ensures.fed rows i.fed);
       counted = subst (HasCounted c.count.new.self) (sym more) (c.count.ensures.counted rows i.counted (subst (λ (p : PlanModel). fault_in p (rows ++ c.row-item.result ∷ []) ≡ None) (i.judged ∙ sym i.plan) good));
     }
+
+pub returns-then-is_err : goal.returns-then-is_err
+returns-then-is_err c good =
+    let n = c.loop-row.row-index in
+    let i = c.loop-row.invariant in
+    let rows = take n c.args.rows.now in
+    let more = one_more c.args.rows.now n c.row-item.result c.loop-row-test.true c.row-item.is in
+    let bad : is_err c.feed.result ≡ true = search rules in
+    let none = good-part c.args.plan.now c.args.rows.now (rows ++ c.row-item.result ∷ []) (n + 1) good more in
+    absurd (refused c.feed.result _ (c.feed.ensures.answer rows i.fed) bad (subst (λ (p : PlanModel). fault_in p (rows ++ c.row-item.result ∷ []) ≡ None) (sym i.judged) none))

@@ -6,8 +6,8 @@ use Rattle.msrp_page.proofs.counts.report_of.Given as goal
 
 abbrev pub invariant-loop-row : goal.invariant-loop-row
 invariant-loop-row l = record {
-  judged : l.auditor.plan ≡ l.fn.plan.now;
-  plan : l.counter.plan.now ≡ l.fn.plan.now;
+  judged : l.auditor.plan ≡ l.fn.plan;
+  plan : l.counter.plan.now ≡ l.fn.plan;
   fed : HasFed l.auditor (take l.row-index l.rows);
   counted : HasCounted l.counter (take l.row-index l.rows);
 }
