@@ -62,7 +62,7 @@ fn next_core(content: &mut Content) -> Result<Box<Content>, u32>
     ensures next { IfOk result (λ core. IsSomeAnd (open_in (Some content.old)) (λ run. (core_in (Some core.value) ≡ Some (new_core run)) × (open_in (Some content.new) ≡ Some (one_more_out run)))) }
     ensures all { IfSome (open_in (Some content.old)) (λ run. (result ≡ Err 8) ↔ (run.handed ≡ run.plan.cores)) }
     ensures none { IfErr result (λ status. ((status ≡ 3) ⊎ (status ≡ 4) ⊎ (status ≡ 8)) × (open_in (Some content.new) ≡ open_in (Some content.old))) }
-    ensures other { open_in (Some content.old) ≡ None → content.new ≡ content.old }
+    ensures other { open_in (Some content.old) ≡ None → (content.new ≡ content.old) × ((result ≡ Err 3) ⊎ (result ≡ Err 8)) }
 {
     match content {
         Content::Open(run) => run.next_core(),
@@ -77,7 +77,8 @@ pub extern "C" fn msrp_run_core(alloc: Global, run: &mut MsrpHandle, core: &mut 
     ensures next { result ≡ 0 → (core.old.value ≡ None) × IsSomeAnd (open_in run.old.value) (λ old. (core_in core.new.value ≡ Some (new_core old)) × (open_in run.new.value ≡ Some (one_more_out old))) }
     ensures all { core.old.value ≡ None → IfSome (open_in run.old.value) (λ old. (result ≡ 8) ↔ (old.handed ≡ old.plan.cores)) }
     ensures none { result ≢ 0 → (core.new.value ≡ core.old.value) × (open_in run.new.value ≡ open_in run.old.value) }
-    ensures other { open_in run.old.value ≡ None → run.new.value ≡ run.old.value }
+    ensures used { core.old.value ≢ None → result ≡ 3 }
+    ensures other { open_in run.old.value ≡ None → (run.new.value ≡ run.old.value) × ((result ≡ 3) ⊎ (result ≡ 8)) }
 {
     if core.is_used(alloc) {
         return USAGE;
