@@ -1,7 +1,7 @@
 -- Rows that come one by one.
 use Rattle.std.proofs.Common.{◌≡◌, ◌++◌, ◌∷◌, ◌+◌, ◌*◌, ◌<◌, ◌≤◌, ◌∙◌}
 use Rattle.msrp_plan.proofs.Common.{[], ℕ, Bool, List, Option, None, Some, IsSomeAnd, Result, Ok, Err, true, false, cond, option_or, inl, inr, cases_lt, le-ltb, map, length, refl, ap, sym, subst, append-nil, append_assoc, length-append, arith, mul-le-mul_left, length-map, map-append, PlanModel, fault_in, verdict, IsPlan}
-use Rattle.msrp_audit.specs.Audits.{AuditorModel, HasFed, IsBroken, IsDueRow, answer_of, has_turn}
+use Rattle.msrp_audit.specs.Audits.{AuditorModel, HasFed, IsBroken, answer_of, has_turn}
 use Rattle.msrp_engine.proofs.Judging.{turn-left}
 use Rattle.msrp_faults.specs.Outcomes.{trace_fault_of}
 use Rattle.msrp_faults.specs.declared.faults.CliFault.{CliFault}
@@ -14,7 +14,7 @@ use Rattle.msrp_plan.specs.declared.rows.Row.{Row}
 use Rattle.msrp_trace.specs.Reading.{Told}
 use Rattle.msrp_trace.specs.declared.faults.TraceFault.{TraceFault}
 use Rattle.msrp_trace.specs.declared.faults.TraceError.TheVariants.{At}
-use Rattle.msrp_c.specs.Feeding.{AreGood, Breaks, Finding, HasDue, IsBrokenAfter, IsBrokenIn, IsDueAfter, IsFed, IsFound, Steps, found_so_far, found_whole, is_good}
+use Rattle.msrp_c.specs.Feeding.{AreGood, Breaks, Finding, HasDue, IsBrokenAfter, IsBrokenIn, IsFed, IsFound, Steps, found_so_far, found_whole, is_good}
 use Rattle.msrp_c.specs.Turns.{row_of, told_in}
 use Rattle.msrp_c.specs.declared.held.FedAuditor.{FedAuditor}
 use Rattle.msrp_c.specs.declared.turns.MsrpRow.{MsrpRow}
@@ -192,9 +192,6 @@ rows-left plan rows good missed = elim (cases_lt (length rows) (plan.cores * pla
 module _ (plan : PlanModel) (turns : List MsrpRow) (a : FedAuditor) (h : IsFed plan turns a) (good : a.verdict ≡ Ok (Ok tt)) where
   fed-rows : AreGood plan turns a.auditor
   fed-rows = h.is.goes_on good
-
-  pub due-after : (core : ℕ) (due : Row) → ((rows : List Row) → HasFed a.auditor rows → IsDueRow a.auditor.plan rows core due) → IsDueAfter plan turns core due
-  due-after core due is = record { rows = fed-rows.rows; read = fed-rows.read; is = subst (λ p. IsDueRow p fed-rows.rows core due) h.plan_is (is fed-rows.rows fed-rows.fed) }
 
   whole-is : found_whole plan turns ≡ Ok (answer_of (verdict plan fed-rows.rows))
   whole-is = good-in-told false plan _ fed-rows.rows (ap told_in fed-rows.read ∙ all-told fed-rows.rows) fed-rows.good
