@@ -154,6 +154,19 @@ uint32_t msrp_auditor_feed(struct msrp_auditor *auditor, const struct msrp_row *
 /* The verdict on the rows so far as a whole trace. Rows may be fed after it. */
 uint32_t msrp_auditor_end(struct msrp_auditor *auditor, struct msrp_found *found);
 
+/* The row that is due of a core: fed next it has no fault, and no other row of the core is without
+ * one, but for one that leaves ahead out. The auditor is as before. MSRP_DONE after the last row.
+ * MSRP_USAGE after a fault or a refusal, and for a core that the plan doesn't have or that has had
+ * its row of this tick. If the answer isn't MSRP_GOOD row is as before. It takes memory, and gives
+ * it back: on MSRP_MEMORY nothing changes. */
+uint32_t msrp_auditor_due(struct msrp_auditor *auditor, uint32_t core, struct msrp_row *row);
+
+/* The verdict on all rows so far, as msrp_auditor_feed answers it, and its cause in words: the record
+ * of the verdict, the row that was fed, the rule, and the row that was due. While nothing is wrong
+ * the text is empty, and the answer is MSRP_GOOD. The text fits or doesn't, as with the texts above.
+ * It takes memory: on MSRP_MEMORY nothing changes. */
+uint32_t msrp_auditor_why(struct msrp_auditor *auditor, uint8_t *text, size_t text_len, size_t *needed, struct msrp_found *found);
+
 /* Begins another trace of the same plan. It takes memory: on MSRP_MEMORY nothing changes. */
 uint32_t msrp_auditor_again(struct msrp_auditor *auditor);
 

@@ -306,6 +306,15 @@ static void report_core(uint32_t core, const struct worker *worker) {
     fprintf(stderr, "%" PRIu32 " overruns\n", worker->overruns);
 }
 
+/* The row with the fault, and its cause in words. */
+static void report_fault(void) {
+    uint8_t words[2048];
+    size_t length;
+    fprintf(stderr, "audit: row %" PRIu32 " violates A%" PRIu32 "\n", found.row, found.rule);
+    if (msrp_auditor_why(&auditor, words, sizeof words, &length, &found) == MSRP_FAULT)
+        fwrite(words, 1, length, stderr);
+}
+
 static void report(void) {
     uint32_t lost = 0;
     for (uint32_t core = 0; core < cores; core++) {
@@ -317,7 +326,7 @@ static void report(void) {
     else if (verdict == MSRP_GOOD)
         fprintf(stderr, "audit: good\n");
     else
-        fprintf(stderr, "audit: row %" PRIu32 " violates A%" PRIu32 "\n", found.row, found.rule);
+        report_fault();
 }
 
 /* Writes the trace of a run whose cores were joined. */

@@ -52,6 +52,8 @@ _CALLS: Dict[str, List[Any]] = {
     "msrp_auditor_new": _TEXT + _HANDLE + _FOUND,
     "msrp_auditor_feed": _HANDLE + _NUMBERS + _FOUND,
     "msrp_auditor_end": _HANDLE + _FOUND,
+    "msrp_auditor_due": [*_HANDLE, c_uint32, *_NUMBERS],
+    "msrp_auditor_why": _HANDLE + _MADE + _FOUND,
     "msrp_auditor_again": _HANDLE,
     "msrp_auditor_free": _HANDLE,
     "msrp_run_new": _TEXT + _HANDLE + _FOUND,

@@ -8,7 +8,7 @@ from ctypes import byref
 from dataclasses import dataclass, field
 from typing import List, Optional
 
-from ._library import FAULT, GOOD, Found, Handle, ask, library
+from ._library import DONE, FAULT, GOOD, REFUSED, Found, Handle, Numbers, ask, ask_text, library
 from .errors import error_of, text_of
 from .plans import Plan, PlanLike
 from .rows import Row, RowLike, Trace, TraceLike
@@ -113,6 +113,45 @@ class Auditor:
         """
         with self._lock:
             return self._verdict(*ask("msrp_auditor_end", byref(self._handle)))
+
+    def due(self, core: int) -> Optional[Row]:
+        """The row that is due of a core: fed next, it has no fault. None after the last row.
+
+        A core has one row a tick: before the other cores have theirs, none is due of it.
+
+        >>> auditor = msrp.Auditor(msrp.Plan.example())
+        >>> auditor.due(1)
+        Row(tick=0, core=1, kind='take', task='b', job=0, resource='g', ahead=None)
+        >>> bool(auditor.feed((0, 0, "take", "a", 0, "g")))
+        True
+        >>> auditor.due(1)
+        Row(tick=0, core=1, kind='queue', task='b', job=0, resource='g', ahead=1)
+        """
+        numbers = Numbers()
+        with self._lock:
+            status, found = ask("msrp_auditor_due", byref(self._handle), core, byref(numbers))
+        if status == DONE:
+            return None
+        if status != GOOD:
+            raise error_of(status, found)
+        return self.plan._as_row(numbers)
+
+    def why(self) -> str:
+        """The verdict on the rows so far, and its cause in words; empty while nothing is wrong.
+
+        >>> auditor = msrp.Auditor(msrp.Plan.example())
+        >>> auditor.why()
+        ''
+        >>> bool(auditor.feed((0, 1, "run", "b", 0)))
+        False
+        >>> print(auditor.why().splitlines()[1])
+        row 1: 0,1,run,b,0,-,-
+        """
+        with self._lock:
+            status, found, words = ask_text("msrp_auditor_why", byref(self._handle))
+        if status not in (GOOD, FAULT, REFUSED):
+            raise error_of(status, found)
+        return words.rstrip()
 
     def restart(self) -> None:
         """Begins another trace of the same plan.

@@ -5,3 +5,4 @@ mod Handles
 mod Streaming
 mod Handing
 mod Turning
+mod Reasons

@@ -1,16 +1,20 @@
 -- Rows that come one by one.
 use Rattle.std.proofs.Common.{◌≡◌, ◌++◌, ◌∷◌, ◌+◌, ◌*◌, ◌<◌, ◌≤◌, ◌∙◌}
-use Rattle.msrp_plan.proofs.Common.{[], ℕ, List, None, Some, Result, Ok, Err, true, false, map, length, refl, ap, sym, subst, append-nil, append_assoc, length-append, arith, mul-le-mul_left, length-map, map-append, PlanModel, fault_in, IsPlan}
-use Rattle.msrp_audit.specs.Audits.{AuditorModel, HasFed}
+use Rattle.msrp_plan.proofs.Common.{[], ℕ, Bool, List, Option, None, Some, IsSomeAnd, Result, Ok, Err, true, false, cond, option_or, inl, inr, cases_lt, le-ltb, map, length, refl, ap, sym, subst, append-nil, append_assoc, length-append, arith, mul-le-mul_left, length-map, map-append, PlanModel, fault_in, verdict, IsPlan}
+use Rattle.msrp_audit.specs.Audits.{AuditorModel, HasFed, IsBroken, answer_of, has_turn}
 use Rattle.msrp_engine.proofs.Judging.{turn-left}
 use Rattle.msrp_faults.specs.Outcomes.{trace_fault_of}
 use Rattle.msrp_faults.specs.declared.faults.CliFault.{CliFault}
+use Rattle.msrp_plan.specs.Verdict.{missing}
 use Rattle.msrp_plan.specs.declared.faults.Fault.{Fault}
+use Rattle.msrp_plan.specs.declared.faults.Rule.TheVariants.{A6}
+use Rattle.msrp_engine.specs.declared.judged.Broken.{Broken}
+use mathlib.Core.Bool.{true≢false}
 use Rattle.msrp_plan.specs.declared.rows.Row.{Row}
 use Rattle.msrp_trace.specs.Reading.{Told}
 use Rattle.msrp_trace.specs.declared.faults.TraceFault.{TraceFault}
 use Rattle.msrp_trace.specs.declared.faults.TraceError.TheVariants.{At}
-use Rattle.msrp_c.specs.Feeding.{AreGood, Finding, IsFed, IsFound, Steps, found_so_far, found_whole, is_good}
+use Rattle.msrp_c.specs.Feeding.{AreGood, Breaks, Finding, HasDue, IsBrokenAfter, IsBrokenIn, IsFed, IsFound, Steps, found_so_far, found_whole, is_good}
 use Rattle.msrp_c.specs.Turns.{row_of, told_in}
 use Rattle.msrp_c.specs.declared.held.FedAuditor.{FedAuditor}
 use Rattle.msrp_c.specs.declared.turns.MsrpRow.{MsrpRow}
@@ -105,6 +109,10 @@ good-found plan turns old new t r g is fed h = record {
     read = row-read plan turns t g.rows r g.read is
 
 -- ---- an auditor that takes it
+some-and : {A : Type 0} (o : Option A) (P Q : A → Type 0) → ((x : A) → P x → Q x) → IsSomeAnd o P → IsSomeAnd o Q
+some-and None P Q f h = h
+some-and (Some x) P Q f h = f x h
+
 -- once something was found it stays
 pub fed-stays : (plan : PlanModel) (turns : List MsrpRow) (t : MsrpRow) (a : FedAuditor) → (a.verdict ≡ Ok (Ok tt) → ⊥) → IsFed plan turns a → IsFed plan (turns ++ t ∷ []) a
 fed-stays plan turns t a bad h = record {
@@ -118,6 +126,9 @@ fed-stays plan turns t a bad h = record {
     goes_on = λ good. absurd (bad good);
   };
   count = λ good. absurd (bad good);
+  broken = λ fault is. some-and a.broken (IsBrokenIn plan turns fault) (IsBrokenIn plan (turns ++ t ∷ []) fault)
+      (λ b at. record { before = at.before; turn = at.turn; behind = at.behind ++ t ∷ []; place = ap (λ xs. xs ++ t ∷ []) at.place ∙ append_assoc at.before (at.turn ∷ at.behind) (t ∷ []); is = at.is })
+      (h.broken fault is);
 }
 
 few : (n cores ticks : ℕ) → n ≤ cores * ticks → cores ≤ 8 → ticks ≤ 20000 → n < 4294967295
@@ -133,14 +144,17 @@ few-taken plan turns a accepted good h =
 len-more : (turns : List MsrpRow) (t : MsrpRow) (m n : ℕ) → m ≡ length turns → n ≡ m + 1 → n ≡ length (turns ++ t ∷ [])
 len-more turns t m n e f = f ∙ (ap (λ k. k + 1) e ∙ sym (length-append turns (t ∷ [])))
 
-pub fed-more : (plan : PlanModel) (turns : List MsrpRow) (t : MsrpRow) (old new : FedAuditor) (number : ℕ) → IsPlan plan → old.verdict ≡ Ok (Ok tt) → IsFed plan turns old → (old.judged < 4294967295 → number ≡ old.judged + 1) → Steps plan old.auditor t number new.auditor new.verdict → new.auditor.plan ≡ old.auditor.plan → new.judged ≡ number
+pub fed-more : (plan : PlanModel) (turns : List MsrpRow) (t : MsrpRow) (old new : FedAuditor) (number : ℕ) → IsPlan plan → old.verdict ≡ Ok (Ok tt) → IsFed plan turns old → (old.judged < 4294967295 → number ≡ old.judged + 1) → Steps plan old.auditor t number new.auditor new.verdict → Breaks plan old.auditor t new.verdict new.broken → new.auditor.plan ≡ old.auditor.plan → new.judged ≡ number
     → IsFed plan (turns ++ t ∷ []) new
-fed-more plan turns t old new number accepted good h next steps same count =
+fed-more plan turns t old new number accepted good h next steps breaks same count =
     let is = next (few-taken plan turns old accepted good h) in
     record {
       plan_is = same ∙ h.plan_is;
       is = steps turns h.plan_is (h.is.goes_on good) (is ∙ ap (λ k. k + 1) (h.count good));
       count = λ _. count ∙ len-more turns t old.judged number (h.count good) is;
+      broken = λ fault bad. some-and new.broken (IsBrokenAfter plan turns t fault) (IsBrokenIn plan (turns ++ t ∷ []) fault)
+          (λ b at. record { before = turns; turn = t; behind = []; place = refl; is = at })
+          (breaks turns h.plan_is (h.is.goes_on good) fault bad);
     }
 
 -- ---- the first and the last
@@ -153,4 +167,40 @@ none-fed plan a is fed good none = record {
     goes_on = λ _. record { rows = []; read = refl; fed = fed; good = refl; few = omega arith };
   };
   count = λ _. none;
+  broken = λ fault bad. absurd (not-faultless a.verdict fault bad good);
 }
+
+-- ---- the row with a fault, and the row that is due
+pub no-fault : (plan : PlanModel) (turns : List MsrpRow) (a : AuditorModel) → a.plan ≡ plan → (g : AreGood plan turns a) → a.fault ≡ None
+no-fault plan turns a same g = g.fed.fault ∙ (ap (λ p. fault_in p g.rows) same ∙ g.good)
+
+pub same-fault : (found fault : Fault) → same_as (Ok (Err found)) (Ok (Err fault)) → found ≡ fault
+same-fault found fault e = cc
+
+-- the row with the fault, and the row that was due in its place
+pub breaks-so : (plan : PlanModel) (turns : List MsrpRow) (old new : AuditorModel) (t : MsrpRow) (r : Row) (fault : Fault) (b : Broken) (g : AreGood plan turns old) → Ok r ≡ row_of plan t → b.fault ≡ fault
+    → IsBroken plan g.rows r b.fault b.expected new → IsBrokenAfter plan turns t fault (record { row = r; broken = b })
+breaks-so plan turns old new t r fault b g is told h = record { rows = g.rows; read = g.read; row = is; breaks = h.fault ∙ ap (λ f. Some f) told; told = told; due = h.turn }
+
+-- rows of which the whole is no legal run have rows left
+rows-left : (plan : PlanModel) (rows : List Row) → fault_in plan rows ≡ None → (verdict plan rows ≡ None → ⊥) → length rows < plan.cores * plan.ticks
+rows-left plan rows good missed = elim (cases_lt (length rows) (plan.cores * plan.ticks)) [
+  | inl left ↦ left
+  | inr full ↦ absurd (missed (ap (λ o. option_or o (missing plan rows)) good ∙ ap (λ b. cond b (Some (record { row = length rows + 1; rule = A6 })) None) (le-ltb (length rows) (plan.cores * plan.ticks) full)))
+]
+
+module _ (plan : PlanModel) (turns : List MsrpRow) (a : FedAuditor) (h : IsFed plan turns a) (good : a.verdict ≡ Ok (Ok tt)) where
+  fed-rows : AreGood plan turns a.auditor
+  fed-rows = h.is.goes_on good
+
+  whole-is : found_whole plan turns ≡ Ok (answer_of (verdict plan fed-rows.rows))
+  whole-is = good-in-told false plan _ fed-rows.rows (ap told_in fed-rows.read ∙ all-told fed-rows.rows) fed-rows.good
+
+  pub none-due : (core : ℕ) (b : Bool) → b ≡ false → ((rows : List Row) → HasFed a.auditor rows → a.auditor.fault ≡ None → length rows < a.auditor.plan.cores * a.auditor.plan.ticks → b ≡ has_turn a.auditor.plan rows core) → HasDue plan turns core → ⊥
+  none-due core b not answer has =
+      let rows = fed-rows.rows in
+      let left = rows-left plan rows fed-rows.good (λ none. has.more (whole-is ∙ ap (λ o. Ok (answer_of o)) none)) in
+      let none = no-fault plan turns a.auditor h.plan_is fed-rows in
+      let is : b ≡ has_turn plan rows core = subst (λ (p : PlanModel). length rows < p.cores * p.ticks → b ≡ has_turn p rows core) h.plan_is (answer rows fed-rows.fed none) left in
+      let told : (told_in (map (row_of plan) turns)).rows ≡ rows = ap (λ xs. (told_in xs).rows) fed-rows.read ∙ ap (λ (x : Told). x.rows) (all-told rows) in
+      true≢false (sym has.turn ∙ (ap (λ rs. has_turn plan rs core) told ∙ (sym is ∙ not)))

@@ -1,8 +1,9 @@
 -- Words on a trace, and on a plan.
-use Rattle.std.specs.Prelude.{◌≡◌}
-use Rattle.msrp_plan.specs.Common.{ℕ, Bool, List, [], Ok, Err, IsOkAnd, ⊤, Result}
+use Rattle.std.specs.Prelude.{◌≡◌, ◌++◌}
+use Rattle.msrp_plan.specs.Common.{ℕ, Bool, List, [], Ok, Err, IsOkAnd, ⊤, Result, verdict_text}
 use Rattle.msrp_plan.specs.declared.faults.Fault.{Fault}
 use Rattle.msrp_faults.specs.declared.faults.CliFault.{CliFault}
+use Rattle.msrp_faults.specs.declared.faults.CliFault.TheVariants.{Memory}
 use Rattle.msrp_text.specs.Reading.{csv_records, plan_of}
 use Rattle.msrp_view_engine.specs.Answers.{plan_found}
 use Rattle.msrp_view_engine.specs.declared.words.Words.{Words}
@@ -30,3 +31,20 @@ HandsWords words old new needed found status = HandsOver (refusal_in words) (wor
 
 abbrev pub AnswersWords : Bool → (Result Words CliFault → Type 0) → List ℕ → List ℕ → ℕ → MsrpFound → ℕ → Type 0
 AnswersWords long AreMade old new needed found status = Gives refusal_in words_in long AreMade old new needed found status
+
+-- ---- words on rows that are fed
+-- what the words on a finding begin with: of a fault the record of the verdict; there are none while nothing is wrong
+abbrev pub AreReasonsFor : Result (Result ⊤ Fault) CliFault → List ℕ → Type 0
+AreReasonsFor (Ok (Ok good)) text = text ≡ []
+AreReasonsFor (Ok (Err fault)) text = (rest : List ℕ) × (text ≡ verdict_text (Err fault) ++ rest)
+AreReasonsFor (Err fault) text = ⊤
+
+abbrev pub AreReasons : Result (Result ⊤ Fault) CliFault → Result Words CliFault → Type 0
+AreReasons found (Ok words) = (words.found ≡ found) × AreReasonsFor found words.text.items
+AreReasons found (Err fault) = fault ≡ Memory
+
+-- such words are handed over
+pub record TellsReasons (what : Result (Result ⊤ Fault) CliFault) (old new : List ℕ) (needed : ℕ) (found : MsrpFound) (status : ℕ) : Type 0 where
+  pub words : Result Words CliFault
+  pub are : AreReasons what words
+  pub hands : HandsWords words old new needed found status

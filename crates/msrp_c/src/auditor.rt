@@ -1,13 +1,14 @@
 //! The calls of an auditor that is fed row by row.
-ghost use Rattle.std.specs.Prelude.{◌≡◌, ◌≢◌, ◌⊎◌, ◌++◌, ◌∷◌};
-ghost use Rattle.msrp_plan.specs.Common.{[], List, Some, None, IsSome, PlanModel};
+ghost use Rattle.std.specs.Prelude.{◌≡◌, ◌≢◌, ◌⊎◌, ◌↔◌, ◌++◌, ◌∷◌};
+ghost use Rattle.msrp_plan.specs.Common.{[], List, Some, None, Ok, Err, IfOk, IfErr, IsSome, PlanModel};
 ghost use Rattle.msrp_engine.specs.Answered.{OrUnread};
 ghost use Rattle.msrp_faults.specs.declared.faults.CliFault.{CliFault};
 ghost use Rattle.msrp_text.specs.Reading.{csv_records, plan_of};
 ghost use Rattle.msrp_c.specs.Answers.{Tells, is_long};
 ghost use Rattle.msrp_c.specs.Contents.{auditor_in};
-ghost use Rattle.msrp_c.specs.Feeding.{HoldsFed, found_so_far, found_whole};
+ghost use Rattle.msrp_c.specs.Feeding.{HasDue, HoldsFed, IsDueAfter, TellsDue, found_so_far, found_whole};
 ghost use Rattle.msrp_c.specs.Opening.{IsMisuse, IsOpened, Opens};
+ghost use Rattle.msrp_c.specs.Whys.{AreReasons, HandsWords, TellsReasons};
 ghost use Rattle.msrp_c.specs.declared.turns.MsrpRow.{MsrpRow as Numbers};
 
 use crate::answers::{GOOD, MEMORY, MsrpFound, USAGE, is_long, tell, unfailed};
@@ -18,9 +19,11 @@ use crate::loading::load;
 use crate::numbers::numbers_of_row;
 use crate::opening::open;
 use crate::turns::MsrpRow;
+use crate::whys::hand_words;
 use msrp_audit::Fault;
 use msrp_engine::CliFault;
-use msrp_plan::Memory;
+use msrp_plan::{CoreId, Memory, Row};
+use msrp_view_engine::Words;
 use std::alloc::Global;
 
 // An auditor of the plan of a text, before the first row.
@@ -114,6 +117,84 @@ pub extern "C" fn msrp_auditor_end(
     let what = end(&content);
     *auditor = MsrpHandle::held(content);
     tell(what, found)
+}
+
+// The row that is due of a core by the auditor of a handle, or the status that tells why there is
+// none.
+fn due(alloc: Global, content: &Content, core: u32) -> Result<Row, u32>
+    ensures row { IfOk result (λ due. (plan : PlanModel) (turns : List Numbers) → HoldsFed plan turns (Some content.now) → IsDueAfter plan turns core due) }
+    ensures due { IfErr result (λ status. (plan : PlanModel) (turns : List Numbers) → HoldsFed plan turns (Some content.now) → HasDue plan turns core → status ≡ 4) }
+    ensures done { (plan : PlanModel) (turns : List Numbers) → HoldsFed plan turns (Some content.now) → (result ≡ Err 8) ↔ (found_whole plan turns ≡ Ok (Ok tt)) }
+    ensures status { IfErr result (λ status. (status ≡ 3) ⊎ (status ≡ 4) ⊎ (status ≡ 8)) }
+    ensures other { auditor_in (Some content.now) ≡ None → result ≡ Err 3 }
+{
+    match content {
+        Content::Auditor(fed) => fed.due(alloc, CoreId(core)),
+        _ => Err(USAGE),
+    }
+}
+
+/// The row that is due of a core: fed next, it has no fault. The auditor is as before.
+#[unsafe(no_mangle)]
+pub extern "C" fn msrp_auditor_due(
+    alloc: Global,
+    auditor: &mut MsrpHandle,
+    core: u32,
+    row: &mut MsrpRow,
+) -> u32
+    ensures same { auditor.new.value ≡ auditor.old.value }
+    ensures row { (plan : PlanModel) (turns : List Numbers) → HoldsFed plan turns auditor.old.value → result ≡ 0 → TellsDue plan turns core row.new }
+    ensures due { (plan : PlanModel) (turns : List Numbers) → HoldsFed plan turns auditor.old.value → HasDue plan turns core → (result ≡ 0) ⊎ (result ≡ 4) }
+    ensures done { (plan : PlanModel) (turns : List Numbers) → HoldsFed plan turns auditor.old.value → (result ≡ 8) ↔ (found_whole plan turns ≡ Ok (Ok tt)) }
+    ensures status { (result ≡ 0) ⊎ (result ≡ 3) ⊎ (result ≡ 4) ⊎ (result ≡ 8) }
+    ensures kept { result ≢ 0 → row.new ≡ row.old }
+    ensures misuse { auditor_in auditor.old.value ≡ None → result ≡ 3 }
+{
+    let Some(content) = auditor.take(alloc) else {
+        return USAGE;
+    };
+    let told = due(alloc, &content, core);
+    *auditor = MsrpHandle::held(content);
+    match told {
+        Ok(due) => {
+            *row = numbers_of_row(due);
+            GOOD
+        }
+        Err(status) => status,
+    }
+}
+
+// The words on what the auditor of a handle found.
+fn why(alloc: Global, content: &Content) -> Result<Words, CliFault>
+    ensures words { (plan : PlanModel) (turns : List Numbers) → HoldsFed plan turns (Some content.now) → AreReasons (found_so_far plan turns) result }
+    ensures other { auditor_in (Some content.now) ≡ None → result ≡ Err CliFault.Usage }
+{
+    match content {
+        Content::Auditor(fed) => fed.why(alloc),
+        _ => Err(CliFault::Usage),
+    }
+}
+
+/// The verdict on the rows so far, with the words on it: of a fault the row, the rule and the row
+/// that was due. While nothing is wrong there are no words.
+#[unsafe(no_mangle)]
+pub extern "C" fn msrp_auditor_why(
+    alloc: Global,
+    auditor: &mut MsrpHandle,
+    text: &mut [u8],
+    needed: &mut usize,
+    found: &mut MsrpFound,
+) -> u32
+    ensures same { auditor.new.value ≡ auditor.old.value }
+    ensures words { (plan : PlanModel) (turns : List Numbers) → HoldsFed plan turns auditor.old.value → TellsReasons (found_so_far plan turns) text.old text.new needed.new found.new result }
+    ensures misuse { auditor_in auditor.old.value ≡ None → HandsWords (Err CliFault.Usage) text.old text.new needed.new found.new result }
+{
+    let Some(content) = auditor.take(alloc) else {
+        return hand_words(Err(CliFault::Usage), text, needed, found);
+    };
+    let words = why(alloc, &content);
+    *auditor = MsrpHandle::held(content);
+    hand_words(words, text, needed, found)
 }
 
 // What the auditor of a handle was fed is forgotten.

@@ -1,16 +1,45 @@
 //! What an auditor takes between two calls, and what it answers.
-ghost use Rattle.std.specs.Prelude.{◌≡◌, ◌<◌, ◌+◌, ◌++◌, ◌∷◌};
-ghost use Rattle.msrp_plan.specs.Common.{[], IfOk, IfErr, List, PlanModel};
-ghost use Rattle.msrp_c.specs.Feeding.{IsFed, Steps, found_whole, is_good};
+ghost use Rattle.std.specs.Prelude.{◌≡◌, ◌⊎◌, ◌↔◌, ◌<◌, ◌+◌, ◌++◌, ◌∷◌};
+ghost use Rattle.msrp_plan.specs.Common.{[], IfOk, IfErr, IsOkAnd, List, None, Ok, Err, PlanModel, fault_in};
+ghost use Rattle.msrp_plan.specs.declared.rows.Row.{Row as TraceRow};
+ghost use Rattle.msrp_audit.specs.Audits.{HasFed, IsBroken};
+ghost use Rattle.msrp_c.specs.Feeding.{Breaks, HasDue, IsDueAfter, IsFed, Steps, found_so_far, found_whole, is_good};
+ghost use Rattle.msrp_c.specs.Whys.{AreReasons};
 ghost use Rattle.msrp_c.specs.declared.turns.MsrpRow.{MsrpRow as Numbers};
 
-use crate::held::{FedAuditor, Loaded};
+use crate::answers::{DONE, MEMORY, USAGE};
+use crate::held::{BrokenRow, FedAuditor, Loaded};
 use crate::turns::{MsrpRow, row_of};
 use msrp_audit::{Auditor, Fault};
-use msrp_engine::CliFault;
-use msrp_plan::{Memory, Plan};
+use msrp_engine::{Broken, CliFault};
+use msrp_plan::{CoreId, Memory, Plan, Row};
 use msrp_trace::TraceError;
+use msrp_view_engine::{Words, why_of_refused_row, why_of_row};
 use std::alloc::Global;
+
+// The next row, if those before have no fault: the auditor was fed it, or this is its fault. After
+// one out of turn the auditor is as before.
+#[inline(always)]
+fn judge(auditor: &mut Auditor<'_>, row: Row) -> Result<(), Broken>
+    ensures plan { auditor.new.plan ≡ auditor.old.plan }
+    ensures good { IfOk result (λ _. (rows : List TraceRow) → HasFed auditor.old rows → auditor.old.fault ≡ None → HasFed auditor.new (rows ++ row ∷ []) × (fault_in auditor.old.plan (rows ++ row ∷ []) ≡ None)) }
+    ensures broken { IfErr result (λ broken. (rows : List TraceRow) → HasFed auditor.old rows → auditor.old.fault ≡ None → IsBroken auditor.old.plan rows row broken.fault broken.expected auditor.new) }
+{
+    if !auditor.is_in_turn(row) {
+        return Err(Broken {
+            fault: auditor.fault_out_of_turn(),
+            expected: None,
+        });
+    }
+    let due = auditor.turn(row.core);
+    match auditor.judge(due, row) {
+        Ok(()) => Ok(()),
+        Err(fault) => Err(Broken {
+            fault,
+            expected: Some(due),
+        }),
+    }
+}
 
 // What is found in the rows so far with one more, of this number, if those before are good.
 fn step(
@@ -18,18 +47,23 @@ fn step(
     auditor: &mut Auditor<'_>,
     turn: &MsrpRow,
     number: u32,
+    broken: &mut Option<BrokenRow>,
 ) -> Result<Result<(), Fault>, CliFault>
     ensures plan { auditor.new.plan ≡ auditor.old.plan }
     ensures steps { Steps plan.now auditor.old turn.now number auditor.new result }
+    ensures breaks { Breaks plan.now auditor.old turn.now result broken.new }
 {
     let row = match row_of(plan, turn) {
         Ok(row) => row,
         Err(fault) => return Err(CliFault::from(TraceError::At { fault, number })),
     };
-    if let Err(fault) = auditor.feed(row) {
-        return Ok(Err(fault));
+    match judge(auditor, row) {
+        Ok(()) => Ok(Ok(())),
+        Err(found) => {
+            *broken = Some(BrokenRow { row, broken: found });
+            Ok(Err(found.fault))
+        }
     }
-    Ok(Ok(()))
 }
 
 // Whether nothing is wrong so far.
@@ -54,6 +88,14 @@ fn after(number: u32) -> u32
     }
 }
 
+// No words on what was found.
+fn no_words(alloc: Global, found: Result<Result<(), Fault>, CliFault>) -> Result<Words, CliFault>
+    ensures { IsOkAnd result (λ words. (words.found ≡ found) × (words.text.items ≡ [])) }
+{
+    let text = Vec::new(alloc);
+    Ok(Words { text, found })
+}
+
 impl FedAuditor {
     /// An auditor of a plan, before the first row.
     pub(crate) fn new(alloc: Global, loaded: Loaded) -> Result<FedAuditor, Memory>
@@ -65,6 +107,7 @@ impl FedAuditor {
             auditor,
             judged: 0,
             verdict: Ok(Ok(())),
+            broken: None,
         })
     }
 
@@ -79,7 +122,13 @@ impl FedAuditor {
             return self.verdict;
         }
         let number = after(self.judged);
-        let verdict = step(self.loaded.plan, &mut self.auditor, turn, number);
+        let verdict = step(
+            self.loaded.plan,
+            &mut self.auditor,
+            turn,
+            number,
+            &mut self.broken,
+        );
         self.judged = number;
         self.verdict = verdict;
         verdict
@@ -93,6 +142,46 @@ impl FedAuditor {
             Ok(self.auditor.end())
         } else {
             self.verdict
+        }
+    }
+
+    /// The row that is due of a core, or the status that tells why there is none.
+    pub(crate) fn due(&self, alloc: Global, core: CoreId) -> Result<Row, u32>
+        ensures row { IfOk result (λ due. (plan : PlanModel) (turns : List Numbers) → IsFed plan turns self.now → IsDueAfter plan turns core.0 due) }
+        ensures due { IfErr result (λ status. (plan : PlanModel) (turns : List Numbers) → IsFed plan turns self.now → HasDue plan turns core.0 → status ≡ 4) }
+        ensures done { (plan : PlanModel) (turns : List Numbers) → IsFed plan turns self.now → (result ≡ Err 8) ↔ (found_whole plan turns ≡ Ok (Ok tt)) }
+        ensures status { IfErr result (λ status. (status ≡ 3) ⊎ (status ≡ 4) ⊎ (status ≡ 8)) }
+    {
+        if is_good(self.end()) {
+            return Err(DONE);
+        }
+        if !is_good(self.verdict) {
+            return Err(USAGE);
+        }
+        if !self.auditor.is_due(core) {
+            return Err(USAGE);
+        }
+        match self.auditor.due_row(alloc, core) {
+            Ok(row) => Ok(row),
+            Err(Memory) => Err(MEMORY),
+        }
+    }
+
+    /// The words on what is found in the rows so far; none while nothing is.
+    pub(crate) fn why(&self, alloc: Global) -> Result<Words, CliFault>
+        ensures { (plan : PlanModel) (turns : List Numbers) → IsFed plan turns self.now → AreReasons (found_so_far plan turns) result }
+    {
+        let Loaded { plan, levels } = self.loaded;
+        match self.verdict {
+            Ok(Ok(())) => no_words(alloc, Ok(Ok(()))),
+            Ok(Err(fault)) => match self.broken {
+                Some(kept) => {
+                    why_of_row(alloc, plan, levels, &self.auditor, kept.row, kept.broken)
+                }
+                None => no_words(alloc, Ok(Err(fault))),
+            },
+            Err(CliFault::Trace { code, number }) => why_of_refused_row(alloc, code, number),
+            Err(fault) => no_words(alloc, Err(fault)),
         }
     }
 

@@ -2,9 +2,9 @@
 ghost use Rattle.std.specs.Prelude.{◌≡◌};
 
 use msrp_audit::{Auditor, Fault};
-use msrp_engine::CliFault;
+use msrp_engine::{Broken, CliFault};
 use msrp_levels::Levels;
-use msrp_plan::Plan;
+use msrp_plan::{Plan, Row};
 
 /// A plan and its levels, which stay in memory for good.
 #[derive(Clone, Copy)]
@@ -12,6 +12,13 @@ pub struct Loaded {
     pub(crate) plan: &'static Plan,
     pub(crate) levels: &'static Levels<'static>,
     ghost same: { levels.now ≡ plan.now },
+}
+
+/// A row with a fault, and the row that was due of its core, where it was in its turn.
+#[derive(Clone, Copy, Debug)]
+pub struct BrokenRow {
+    pub(crate) row: Row,
+    pub(crate) broken: Broken,
 }
 
 /// An auditor between two calls, and the verdict on the rows so far.
@@ -22,5 +29,7 @@ pub struct FedAuditor {
     // How many rows were judged, up to the first that is refused or has a fault.
     pub(crate) judged: u32,
     pub(crate) verdict: Result<Result<(), Fault>, CliFault>,
+    // The row with the fault, if one was found.
+    pub(crate) broken: Option<BrokenRow>,
     ghost same: { auditor.plan ≡ loaded.plan.now },
 }

@@ -28,7 +28,8 @@ mod whys;
 
 pub use answers::MsrpFound;
 pub use auditor::{
-    msrp_auditor_again, msrp_auditor_end, msrp_auditor_feed, msrp_auditor_free, msrp_auditor_new,
+    msrp_auditor_again, msrp_auditor_due, msrp_auditor_end, msrp_auditor_feed, msrp_auditor_free,
+    msrp_auditor_new, msrp_auditor_why,
 };
 pub use audits::{msrp_audit, msrp_audit_rows, msrp_report};
 pub use cores::{msrp_core_arrive, msrp_core_free, msrp_core_turn};

@@ -51,8 +51,8 @@ fn advised(alloc: Global, plan: &[u8]) -> Result<Words, CliFault>
     why_of_plan(alloc, "plan", &mut plan)
 }
 
-// Hands words over, or tells why there are none.
-fn hand_words(
+/// Hands words over, or tells why there are none.
+pub(crate) fn hand_words(
     words: Result<Words, CliFault>,
     text: &mut [u8],
     needed: &mut usize,

@@ -9,7 +9,7 @@ use Rattle.msrp_core.specs.Active.{AreActive, active_of, state_in}
 use Rattle.msrp_core.specs.CoreJobs.{AreJobs, IsRunning, active_in}
 use Rattle.msrp_core.specs.Machine.{MachineModel, StandsAfter}
 use Rattle.msrp_core.specs.MachineView.{IsMachineView, Repeats, Spins, machine_view}
-use Rattle.msrp_core.specs.Repeats.{CanRepeat, HasWorkLeft, Polls}
+use Rattle.msrp_core.specs.Repeats.{CanRepeat, Polls}
 use Rattle.msrp_core.specs.declared.jobs.Jobs.{Jobs}
 use Rattle.msrp_core.specs.declared.machine.Machine.TheInside.{Inside}
 use Rattle.msrp_core.specs.declared.repeats.Poll.{Poll}

@@ -2,7 +2,7 @@ use Rattle.std.proofs.Common.{◌≡◌, ◌∙◌}
 use Rattle.msrp_plan.proofs.Common.{sym, subst, refl}
 use Rattle.msrp_plan.specs.Plan.{PlanModel}
 use Rattle.msrp_plan.specs.WellFormed.{IsPlan}
-use Rattle.msrp_c.specs.Feeding.{Steps}
+use Rattle.msrp_c.specs.Feeding.{Breaks, Steps}
 use Rattle.msrp_c.proofs.Streaming.{bad-is, fed-more, fed-stays, good-is}
 use Rattle.msrp_c.proofs.held.FedAuditor.feed.Goals as goal
 
@@ -13,4 +13,5 @@ pub returns-clause-fed : goal.returns-clause-fed
 returns-clause-fed c = λ plan turns h.
     let is : c.args.self.now.loaded.plan.now ≡ plan = sym c.args.self.now.same ∙ h.plan_is in
     fed-more plan turns c.args.turn.now c.args.self.now _ c.after-number.result (subst IsPlan is c.tasks-accepted.ensures.plan) (good-is _ (sym c.is_good.ensures ∙ c.if-not-is_good.false)) h c.after-number.ensures
-    (subst (λ (p : PlanModel). Steps p c.args.self.now.auditor c.args.turn.now c.after-number.result c.step-verdict.new.auditor c.step-verdict.result) is c.step-verdict.ensures.steps) c.step-verdict.ensures.plan refl
+    (subst (λ (p : PlanModel). Steps p c.args.self.now.auditor c.args.turn.now c.after-number.result c.step-verdict.new.auditor c.step-verdict.result) is c.step-verdict.ensures.steps)
+    (subst (λ (p : PlanModel). Breaks p c.args.self.now.auditor c.args.turn.now c.step-verdict.result c.step-verdict.new.broken) is c.step-verdict.ensures.breaks) c.step-verdict.ensures.plan refl

@@ -1,7 +1,4 @@
-use Rattle.std.proofs.Common.{◌≡◌, ◌<◌, ◌∙◌}
-use Rattle.msrp_plan.proofs.Common.{length, ap, sym, subst, PlanModel}
-use Rattle.msrp_core.specs.Machine.{MachineModel}
-use Rattle.msrp_sim.specs.Cores.{CoresModel, MakesNext}
+use Rattle.std.proofs.Common.{◌∙◌}
 use Rattle.msrp_sim.specs.CoresView.{cores_view}
 use Rattle.msrp_sim.proofs.Copied.{copied_core, copied_next, copied_ticks, copied_resources}
 use Rattle.msrp_sim.proofs.cores.Cores.next_row.Goals as goal
