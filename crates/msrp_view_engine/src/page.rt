@@ -34,13 +34,11 @@ fn read_rows(alloc: Global, plan: &Plan, text: &[u8]) -> Result<Trace, CliFault>
     gathered
 }
 
-// The rows of a text that don't stand a line after the one before, with their lines; line 0 is an unknown one.
-fn lines_of(alloc: Global, plan: &Plan, text: &[u8]) -> Result<Vec<(u32, u64)>, Memory> {
-    let mut source = Source::new(text);
-    let mut lines = Vec::new(alloc);
-    let Ok(mut rows) = TraceReader::new(alloc, &mut source, plan) else {
-        return Ok(lines);
-    };
+// The rows from here on whose line isn't the one after that of the row before; line 0 is unknown.
+fn lines_of_rows<R: Read>(
+    rows: &mut TraceReader<'_, R>,
+    mut lines: Vec<(u32, u64)>,
+) -> Result<Vec<(u32, u64)>, Memory> {
     let mut expected = 1;
     for row in 1..u32::MAX {
         let Ok(Some(_)) = rows.next_row() else {
@@ -53,6 +51,27 @@ fn lines_of(alloc: Global, plan: &Plan, text: &[u8]) -> Result<Vec<(u32, u64)>, 
         expected = if line == 0 { 0 } else { line.saturating_add(1) };
     }
     Ok(lines)
+}
+
+// The rows of a text whose line isn't the one after that of the row before.
+fn read_lines<'x>(
+    alloc: Global,
+    plan: &'x Plan,
+    text: &'x [u8],
+) -> Result<Vec<(u32, u64)>, CliFault> {
+    let mut source = Source::new(text);
+    let mut rows = TraceReader::new(alloc, &mut source, plan)?;
+    let lines = lines_of_rows(&mut rows, Vec::new(alloc));
+    drop(rows);
+    Ok(lines?)
+}
+
+// The same of a text that was read before: then only an allocation fails.
+fn lines_of(alloc: Global, plan: &Plan, text: &[u8]) -> Result<Vec<(u32, u64)>, Memory> {
+    match read_lines(alloc, plan, text) {
+        Ok(lines) => Ok(lines),
+        Err(_) => Err(Memory),
+    }
 }
 
 // The page of a trace of an accepted plan, in memory.

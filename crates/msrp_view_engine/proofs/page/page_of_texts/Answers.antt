@@ -7,8 +7,8 @@ use Rattle.msrp_view_engine.proofs.page.page_of_texts.Goals as goal
 
 pub returns-clause-found : goal.returns-clause-found
 returns-clause-found g c = λ plan_bytes trace_bytes plan trace.
-    settled_from_plan (λ read answer. IsPageOf read (csv_records trace_bytes) answer) c.in_ok-plan.plan (plan_of (csv_records plan_bytes)) c.page_of.result c.settled.result
-    (c.in_ok-plan.ensures.answer plan_bytes plan) c.settled.ensures.same (c.page_of.ensures.found trace_bytes trace)
+    settled_from_plan (λ read answer. IsPageOf read (csv_records trace_bytes) answer) c.in_ok-plan.plan (plan_of (csv_records plan_bytes)) c.page_of-made.result c.settled.result
+    (c.in_ok-plan.ensures.answer plan_bytes plan) c.settled.ensures.same (c.page_of-made.ensures.found trace_bytes trace)
 
 pub returns-clause-reads : goal.returns-clause-reads
 returns-clause-reads g c = record {
