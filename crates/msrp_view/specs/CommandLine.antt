@@ -2,8 +2,7 @@
 use Rattle.msrp_plan.specs.Common.{ℕ, Bool, true, false, nat_lt, length, List, [], Option, Some, None, codes, Ok, Err, is_ascii_digit, list_all, Result}
 use Rattle.std.specs.Prelude.{◌≡◌, ◌&&◌, ◌||◌, ◌^◌, ◌∷◌, if◌then◌else◌, MatchResult}
 use Rattle.std.specs.Str.Parse.{digits_value}
-use Rattle.clap.specs.Words.{App, IsAmong, Kinds, Row, Rule, Text, app_of, first_of, new_app, new_rule, with_rule}
-use Rattle.clap.specs.declared.builder.command.Command.{Command}
+use Rattle.clap.specs.Words.{App, IsAmong, Kinds, Row, Rule, Text, first_of, new_app, new_rule, with_rule}
 use Rattle.clap.specs.declared.error.kind.ErrorKind.{ErrorKind}
 use Rattle.clap.specs.declared.error.kind.ErrorKind.TheVariants.{DisplayVersion}
 use Rattle.msrp_cli.specs.Arguments.{fault_of_words, flag, help_unless, is_given, paths_of, valued, wanted}
@@ -20,29 +19,17 @@ use Rattle.msrp_export.specs.declared.formats.Format.TheVariants as format
 use Rattle.msrp_picture.specs.declared.windows.Style.TheVariants as style
 
 -- ---- arguments
--- the program without arguments
-abbrev pub program : App
-program = new_app (codes "msrp_view")
-
--- a path that need not be given
-abbrev pub optional : Text → Rule
-optional name = new_rule name
-
 -- the flag that asks for the version
 abbrev pub version : Rule
 version = record (new_rule (codes "version")) { long = Some (codes "version"); action = Some action.Version }
 
--- all arguments
+-- all arguments; the trace need not be given
 unfoldable pub grammar : App
 grammar =
-    let flags = with_rule (with_rule program (flag (codes "text"))) (flag (codes "svg")) in
+    let flags = with_rule (with_rule (new_app (codes "msrp_view")) (flag (codes "text"))) (flag (codes "svg")) in
     let ticks = with_rule (with_rule flags (valued (codes "from"))) (valued (codes "to")) in
     let others = with_rule (with_rule (with_rule ticks (flag (codes "why"))) (flag (codes "vcd"))) (flag (codes "perfetto")) in
-    with_rule (with_rule (with_rule others version) (wanted (codes "PLAN"))) (optional (codes "TRACE"))
-
--- the parser was told of these arguments
-abbrev pub Takes : App → Command → Type 0
-Takes words command = app_of command ≡ words
+    with_rule (with_rule (with_rule others version) (wanted (codes "PLAN"))) (new_rule (codes "TRACE"))
 
 -- ---- what is asked for, by what the parser found
 -- text, unless SVG is asked for; not both
@@ -51,14 +38,10 @@ style_of text false = Ok style.Text
 style_of false true = Ok style.Svg
 style_of true true = Err Usage
 
--- digits alone, which write a number of 32 bits
-abbrev pub is_tick : Text → Bool
-is_tick word = nat_lt 0 (length word) && (list_all is_ascii_digit word && nat_lt (digits_value 10 word) (2 ^ 32))
-
--- the tick of an argument, if it is given
+-- the tick of an argument, if it is given: digits alone, which write a number of 32 bits
 abbrev pub tick_of : Option Text → Result (Option ℕ) CliFault
 tick_of None = Ok None
-tick_of (Some word) = if is_tick word then Ok (Some (digits_value 10 word)) else Err Usage
+tick_of (Some word) = if nat_lt 0 (length word) && (list_all is_ascii_digit word && nat_lt (digits_value 10 word) (2 ^ 32)) then Ok (Some (digits_value 10 word)) else Err Usage
 
 -- the style and the ticks of a picture, if none of them is refused
 abbrev pub asked_by : Result Style CliFault → Result (Option ℕ) CliFault → Result (Option ℕ) CliFault → Result Asked CliFault
@@ -96,8 +79,7 @@ explains_plan _ _ = false
 abbrev pub IsShown : View → List Row → Result Cmd CliFault → Type 0
 IsShown view rows (Ok (Show v plan trace)) = (v ≡ view) × (explains_plan view (first_of (codes "TRACE") rows) ≡ false) × (paths_of rows ≡ Some (plan.now, trace.now))
 IsShown view rows (Ok (WhyPlan plan)) = (explains_plan view (first_of (codes "TRACE") rows) ≡ true) × (first_of (codes "PLAN") rows ≡ Some plan.now)
-IsShown view rows (Ok Help) = ⊥
-IsShown view rows (Ok Version) = ⊥
+IsShown view rows (Ok _) = ⊥
 IsShown view rows (Err fault) =
     (fault ≡ Usage)
     × (explains_plan view (first_of (codes "TRACE") rows) ≡ true → first_of (codes "PLAN") rows ≡ None)

@@ -1,8 +1,8 @@
 //! The command line: the arguments of a command, and what they ask for.
 ghost use Rattle.std.specs.Prelude.{◌≡◌, ◌⊎◌};
-ghost use Rattle.msrp_plan.specs.Common.{false, map, ok_or, option_map, string_bytes, Err, IfErr, IfOk, Some, is_ascii_digit, list_all};
-ghost use Rattle.clap.specs.Words.{fault_of, found_of, matches_of, rows_of, rule_of};
-ghost use Rattle.msrp_view.specs.CommandLine.{IsAnswered, IsAsked, IsShown, Takes};
+ghost use Rattle.msrp_plan.specs.Common.{codes, false, map, option_map, string_bytes, Err, IfErr, IfOk, Some, is_ascii_digit, list_all};
+ghost use Rattle.clap.specs.Words.{app_of, fault_of, found_of, matches_of, new_app, new_rule, rows_of, rule_of};
+ghost use Rattle.msrp_view.specs.CommandLine.{IsAnswered, IsAsked, IsShown};
 ghost use Rattle.msrp_view.specs.CommandLine as line;
 
 use clap::error::ErrorKind;
@@ -45,28 +45,9 @@ pub enum Cmd<'a> {
     Version,
 }
 
-// The names of arguments, by which they are declared and found again.
-const TEXT: &str = "text";
-
-const SVG: &str = "svg";
-
-const FROM: &str = "from";
-
-const TO: &str = "to";
-
-const WHY: &str = "why";
-
-const VCD: &str = "vcd";
-
-const PERFETTO: &str = "perfetto";
-
-const VERSION: &str = "version";
-
-// What the help says of each.
+// What the help says of the program and of each argument.
 const ABOUT: &str =
     "MSRP 0.2.0, shows a trace of a plan: a picture, the reasons of its verdict, or a file for another tool";
-
-const TEXT_HELP: &str = "plain-text picture (default)";
 
 const SVG_HELP: &str = "SVG picture, for a browser or a document";
 
@@ -83,15 +64,11 @@ const VCD_HELP: &str = "value change dump of the whole trace, for GTKWave and ot
 
 const PERFETTO_HELP: &str = "trace events (JSON) of the whole trace, for ui.perfetto.dev";
 
-const PLAN_HELP: &str = "path of the plan; - is standard input";
-
 const TRACE_HELP: &str = "path of the trace; - is standard input; only --why works without it";
-
-const VERSION_HELP: &str = "print the version, and the kit and the commit of the release";
 
 // The program, still without arguments.
 fn program<'a>(alloc: Global) -> Command<'a>
-    ensures { Takes line.program result }
+    ensures { app_of result ≡ new_app (codes "msrp_view") }
 {
     Command::new(alloc, "msrp_view").about(ABOUT)
 }
@@ -101,33 +78,34 @@ fn version<'a>(alloc: Global) -> Arg<'a>
     ensures rule { rule_of result ≡ line.version }
     ensures own { result.global ≡ false }
 {
-    Arg::new(alloc, VERSION)
-        .long(VERSION)
+    Arg::new(alloc, "version")
+        .long("version")
         .action(ArgAction::Version)
-        .help(VERSION_HELP)
+        .help("print the version, and the kit and the commit of the release")
 }
 
 // A path that need not be given.
 fn optional<'a>(alloc: Global, name: &'a str, help: &'a str) -> Arg<'a>
-    ensures rule { rule_of result ≡ line.optional name.now }
+    ensures rule { rule_of result ≡ new_rule name.now }
     ensures own { result.global ≡ false }
 {
     Arg::new(alloc, name).help(help)
 }
 
 fn grammar<'a>(alloc: Global) -> Result<Command<'a>, AllocError>
-    ensures { IfOk result (Takes line.grammar) }
+    ensures { IfOk result (λ command. app_of command ≡ line.grammar) }
 {
     let made = Ok(program(alloc));
-    let made = with_arg(made, flag(alloc, TEXT, TEXT_HELP));
-    let made = with_arg(made, flag(alloc, SVG, SVG_HELP));
-    let made = with_arg(made, valued(alloc, FROM, "T", FROM_HELP));
-    let made = with_arg(made, valued(alloc, TO, "T", TO_HELP));
-    let made = with_arg(made, flag(alloc, WHY, WHY_HELP));
-    let made = with_arg(made, flag(alloc, VCD, VCD_HELP));
-    let made = with_arg(made, flag(alloc, PERFETTO, PERFETTO_HELP));
+    let made = with_arg(made, flag(alloc, "text", "plain-text picture (default)"));
+    let made = with_arg(made, flag(alloc, "svg", SVG_HELP));
+    let made = with_arg(made, valued(alloc, "from", "T", FROM_HELP));
+    let made = with_arg(made, valued(alloc, "to", "T", TO_HELP));
+    let made = with_arg(made, flag(alloc, "why", WHY_HELP));
+    let made = with_arg(made, flag(alloc, "vcd", VCD_HELP));
+    let made = with_arg(made, flag(alloc, "perfetto", PERFETTO_HELP));
     let made = with_arg(made, version(alloc));
-    let made = with_arg(made, path(alloc, PLAN, PLAN_HELP));
+    let plan = "path of the plan; - is standard input";
+    let made = with_arg(made, path(alloc, PLAN, plan));
     with_arg(made, optional(alloc, TRACE, TRACE_HELP))
 }
 
@@ -163,7 +141,7 @@ fn tick_of(word: Option<&str>) -> Result<Option<u32>, CliFault>
     }
 }
 
-// The style of a picture: text, unless SVG is asked for.
+// The style of a picture: text, unless "svg" is asked for.
 fn style_of(text: bool, svg: bool) -> Result<Style, CliFault>
     ensures value { result ≡ line.style_of text svg }
     ensures usage { IfErr result (λ fault. fault ≡ CliFault.Usage) }
@@ -181,9 +159,9 @@ fn asked_of(matches: &ArgMatches<'_>) -> Result<Asked, CliFault>
     ensures usage { IfErr result (λ fault. fault ≡ CliFault.Usage) }
 {
     Ok(Asked {
-        style: style_of(is_given(matches, TEXT), is_given(matches, SVG))?,
-        from: tick_of(value_of(matches, FROM))?,
-        to: tick_of(value_of(matches, TO))?,
+        style: style_of(is_given(matches, "text"), is_given(matches, "svg"))?,
+        from: tick_of(value_of(matches, "from"))?,
+        to: tick_of(value_of(matches, "to"))?,
     })
 }
 
@@ -191,10 +169,10 @@ fn asked_of(matches: &ArgMatches<'_>) -> Result<Asked, CliFault>
 fn says_picture(matches: &ArgMatches<'_>) -> bool
     ensures { result ≡ line.says_picture (rows_of (found_of matches.now)) }
 {
-    is_given(matches, TEXT)
-        || is_given(matches, SVG)
-        || is_given(matches, FROM)
-        || is_given(matches, TO)
+    is_given(matches, "text")
+        || is_given(matches, "svg")
+        || is_given(matches, "from")
+        || is_given(matches, "to")
 }
 
 // What is shown: a picture, words, or a file for another tool.
@@ -202,9 +180,9 @@ fn view_of(matches: &ArgMatches<'_>) -> Result<View, CliFault>
     ensures value { result ≡ line.view_of (rows_of (found_of matches.now)) }
     ensures usage { IfErr result (λ fault. fault ≡ CliFault.Usage) }
 {
-    let why = is_given(matches, WHY);
-    let vcd = is_given(matches, VCD);
-    let perfetto = is_given(matches, PERFETTO);
+    let why = is_given(matches, "why");
+    let vcd = is_given(matches, "vcd");
+    let perfetto = is_given(matches, "perfetto");
     let picture = says_picture(matches);
     match (why, vcd, perfetto, picture) {
         (true, false, false, false) => Ok(View::Why),
@@ -273,8 +251,8 @@ pub fn command_of<'a>(alloc: Global, words: &'a [String]) -> Result<Cmd<'a>, Cli
 
 // Why arguments that the parser takes are no command, or none for this plan.
 fn misuse_in(matches: &ArgMatches<'_>) -> &'static str {
-    let from = tick_of(value_of(matches, FROM));
-    let to = tick_of(value_of(matches, TO));
+    let from = tick_of(value_of(matches, "from"));
+    let to = tick_of(value_of(matches, "to"));
     match view_of(matches) {
         _ if from.is_err() || to.is_err() => "error: --from and --to take whole numbers\n",
         Err(_) => "error: these options can't be combined\n",

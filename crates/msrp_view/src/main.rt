@@ -12,8 +12,7 @@ use msrp_engine::{CliFault, exit_of, write_answer};
 use msrp_hints::{NOT_UTF8, Paths, are_wanted, hint_on};
 use msrp_plan::bytes::{Sink, Source};
 use msrp_view_engine::{export_text, view_text, why_plan_text, why_text};
-use std::alloc::Global;
-use std::io::{BufWriter, Read, Write};
+use std::io::{BufWriter, Write};
 use std::process::ExitCode;
 use std::{env, fs, io};
 
@@ -37,21 +36,6 @@ fn release_info(rt: &HostRuntime) -> Option<Vec<u8>> {
     fs::read(rt, path.as_path()).ok()
 }
 
-// Shows a trace of a plan.
-fn show<P: Read, T: Read, W: Write>(
-    alloc: Global,
-    view: View,
-    plan: &mut Source<P>,
-    trace: &mut Source<T>,
-    out: &mut Sink<W>,
-) -> Result<u8, CliFault> {
-    match view {
-        View::Picture(asked) => view_text(alloc, plan, trace, out, asked),
-        View::Why => why_text(alloc, plan, trace, out),
-        View::Export(format) => export_text(alloc, plan, trace, out, format),
-    }
-}
-
 // Does what the command asks for, and answers the exit status.
 fn answer<W: Write>(rt: &HostRuntime, cmd: Cmd<'_>, out: &mut Sink<W>) -> Result<u8, CliFault> {
     let alloc = rt.alloc();
@@ -60,10 +44,8 @@ fn answer<W: Write>(rt: &HostRuntime, cmd: Cmd<'_>, out: &mut Sink<W>) -> Result
         Cmd::Version => {
             let release = release_info(rt);
             out.add(b"msrp_view 0.2.0\n");
-            match &release {
-                Some(release) => write_answer(out, release.as_slice(), Ok(0)),
-                None => write_answer(out, NO_RELEASE, Ok(0)),
-            }
+            let release = release.as_ref().map_or(NO_RELEASE, |text| text.as_slice());
+            write_answer(out, release, Ok(0))
         }
         Cmd::WhyPlan { plan } => {
             let name = if plan == "-" { STANDARD_INPUT } else { plan };
@@ -71,13 +53,12 @@ fn answer<W: Write>(rt: &HostRuntime, cmd: Cmd<'_>, out: &mut Sink<W>) -> Result
         }
         Cmd::Show { view, plan, trace } => {
             let (plan, trace) = open_both(rt, plan, trace)?;
-            show(
-                alloc,
-                view,
-                &mut Source::new(plan),
-                &mut Source::new(trace),
-                out,
-            )
+            let (mut plan, mut trace) = (Source::new(plan), Source::new(trace));
+            match view {
+                View::Picture(asked) => view_text(alloc, &mut plan, &mut trace, out, asked),
+                View::Why => why_text(alloc, &mut plan, &mut trace, out),
+                View::Export(format) => export_text(alloc, &mut plan, &mut trace, out, format),
+            }
         }
     }
 }

@@ -1,6 +1,10 @@
-//! The engines of the second program, from bytes to bytes, over any reader and writer: the picture of a trace (`view`), a trace in the
-//! format of another tool (`export`), a verdict with its reasons (`why`), and what is wrong or odd in a plan (`why_plan`). The first
-//! program doesn't wait for their proofs.
+//! The engines of the second program, from bytes to bytes, over any reader and writer: the picture
+//! of a trace (`view`), a trace in the format of another tool (`export`), a verdict with its reasons
+//! (`why`), and what is wrong or odd in a plan (`why_plan`).
+//!
+//! The clause `answer` of each says what it answers to the plan and the rows that the bytes of its
+//! readers stand for, where they tell them, and no read failed and no memory was refused. The other
+//! clauses hold whatever they tell.
 #![tactic(auto)]
 
 mod export;

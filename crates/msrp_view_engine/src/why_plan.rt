@@ -2,7 +2,7 @@
 ghost use Rattle.std.specs.Prelude.{◌≡◌, ◌⊎◌, ◌-◌};
 ghost use Rattle.msrp_plan.specs.Common.{ℕ, List, [], true, false, Ok, Some, Err, map, take, IfOk, IfErr, OnOk, source_failed, source_remaining, WroteSome};
 ghost use Rattle.csv.specs.Records.{fields_of};
-ghost use Rattle.msrp_text.specs.Reading.{csv_records, plan_of, record_at};
+ghost use Rattle.msrp_text.specs.Reading.{csv_records, plan_of};
 ghost use Rattle.msrp_engine.specs.Answered.{Ends, IsDone, OrUnread};
 ghost use Rattle.msrp_faults.specs.Outcomes.{fault_of, is_sim_fault};
 ghost use Rattle.msrp_view_engine.specs.Answers.{IsOnPlan, WhyPlanAnswers, plan_found};
@@ -55,29 +55,6 @@ fn first_records(alloc: Global, bytes: &[u8], most: u32) -> Result<Vec<ByteRecor
     Ok(records)
 }
 
-// The text of the words on a refused record, with the records before it.
-fn refusal_text<'a>(
-    alloc: Global,
-    name: &'a str,
-    text: &'a [u8],
-    fault: PlanFault,
-    number: u32,
-    before: &'a [ByteRecord],
-    row: &'a ByteRecord,
-) -> Result<Vec<u8>, CliFault>
-    ensures { IfErr result (λ fault. fault ≡ CliFault.Memory) }
-{
-    let words = RefusedPlan {
-        name,
-        text,
-        fault,
-        number,
-        before,
-        row,
-    };
-    Ok(format!(in alloc; "{words}")?.into_bytes())
-}
-
 // The words on a refused record of a text, in memory.
 fn words_on_refusal(
     alloc: Global,
@@ -94,8 +71,16 @@ fn words_on_refusal(
     let place = number.saturating_sub(1) as usize;
     let before = records.get(..place).unwrap_or(records.as_slice());
     let row = records.get(place).unwrap_or(&none);
+    let words = RefusedPlan {
+        name,
+        text,
+        fault,
+        number,
+        before,
+        row,
+    };
     Ok(Words {
-        text: refusal_text(alloc, name, text, fault, number, before, row)?,
+        text: format!(in alloc; "{words}")?.into_bytes(),
         found: Err(CliFault::from(TextError::At { fault, number })),
     })
 }
@@ -150,11 +135,7 @@ pub fn why_plan_text<P: Read, W: Write>(
     plan: &mut Source<P>,
     out: &mut Sink<W>,
 ) -> Result<u8, CliFault>
-    // Where the reader tells its bytes, and no read failed and no memory was refused, the answer is that to
-    // them and to the plan that they stand for.
     ensures answer { (bytes : List ℕ) → source_remaining P.remaining plan.old ≡ Some bytes → OrUnread result (WhyPlanAnswers (plan_of (csv_records bytes)) out.new result) }
-
-    // Whatever the reader tells.
     ensures wrote { WroteSome W.contents out.old out.new }
     ensures read { result ≡ Err CliFault.Read → source_failed plan.new ≡ true }
     ensures memory { result ≡ Err CliFault.Memory → source_failed plan.new ≡ false }

@@ -1,12 +1,7 @@
 use Rattle.std.proofs.Common.{◌≡◌, ◌∙◌}
 use Rattle.msrp_plan.proofs.Common.{Bool, true, false, Result, Ok, Err, refl, subst, sym, inl, inr, PlanModel}
 use Rattle.msrp_text.specs.Reading.{Answers, csv_records, plan_of}
-use Rattle.msrp_text.specs.declared.reading.TextError.{TextError}
-use Rattle.msrp_trace.specs.Reading.{rows_of}
-use Rattle.msrp_engine.specs.Answered.{OrUnread}
-use Rattle.msrp_engine.specs.MadeTexts.{found_in}
-use Rattle.msrp_engine.proofs.Answered.{settled_from_plan}
-use Rattle.msrp_view_engine.specs.Answers.{IsPictureOf, found_within}
+use Rattle.msrp_view_engine.proofs.Common.{IsPictureOf, OrUnread, TextError, found_in, found_within, rows_of, settled_from_plan}
 use Rattle.msrp_view_engine.proofs.view.picture_of_texts.Goals as goal
 
 pub returns-clause-found : goal.returns-clause-found
