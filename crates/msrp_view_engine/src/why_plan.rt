@@ -55,6 +55,29 @@ fn first_records(alloc: Global, bytes: &[u8], most: u32) -> Result<Vec<ByteRecor
     Ok(records)
 }
 
+// The text of the words on a refused record, with the records before it.
+fn refusal_text<'a>(
+    alloc: Global,
+    name: &'a str,
+    text: &'a [u8],
+    fault: PlanFault,
+    number: u32,
+    before: &'a [ByteRecord],
+    row: &'a ByteRecord,
+) -> Result<Vec<u8>, CliFault>
+    ensures { IfErr result (λ fault. fault ≡ CliFault.Memory) }
+{
+    let words = RefusedPlan {
+        name,
+        text,
+        fault,
+        number,
+        before,
+        row,
+    };
+    Ok(format!(in alloc; "{words}")?.into_bytes())
+}
+
 // The words on a refused record of a text, in memory.
 fn words_on_refusal(
     alloc: Global,
@@ -71,16 +94,8 @@ fn words_on_refusal(
     let place = number.saturating_sub(1) as usize;
     let before = records.get(..place).unwrap_or(records.as_slice());
     let row = records.get(place).unwrap_or(&none);
-    let words = RefusedPlan {
-        name,
-        text,
-        fault,
-        number,
-        before,
-        row,
-    };
     Ok(Words {
-        text: format!(in alloc; "{words}")?.into_bytes(),
+        text: refusal_text(alloc, name, text, fault, number, before, row)?,
         found: Err(CliFault::from(TextError::At { fault, number })),
     })
 }
