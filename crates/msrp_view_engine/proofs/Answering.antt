@@ -1,9 +1,7 @@
 -- What holds of what was made holds of what is answered to it.
 use Rattle.std.proofs.Common.{◌≡◌}
 use Rattle.msrp_plan.proofs.Common.{Result, Ok, Err, inl, inr, some-nothing, wrote-some}
-use Rattle.msrp_engine.specs.Answered.{OrUnread}
-use Rattle.msrp_faults.specs.declared.faults.CliFault.{CliFault}
-use Rattle.msrp_faults.specs.declared.faults.CliFault.TheVariants.{Read, Memory}
+use Rattle.msrp_view_engine.proofs.Common.{CliFault, Memory, OrUnread, Read}
 
 -- where a read failed or memory was refused, that is the answer
 pub or-unread : {A B : Type 0} (made : Result A CliFault) (answer : Result B CliFault) (P Q : Type 0) → OrUnread made P → ((fault : CliFault) → made ≡ Err fault → answer ≡ Err fault) → (P → Q) → OrUnread answer Q

@@ -4,29 +4,15 @@ use Rattle.msrp_plan.proofs.Common.{[], ℕ, true, List, Option, Some, None, IfO
 use Rattle.msrp_plan.specs.Common.{IsOkAnd}
 use Rattle.msrp_plan.specs.declared.bytes.Sink.{Sink}
 use Rattle.msrp_plan.specs.declared.faults.Fault.{Fault}
-use Rattle.msrp_plan.specs.declared.rows.Row.{Row}
+use Rattle.msrp_view_engine.proofs.Common.{Answers, AreNoted, AreOnTrace, BeginsRow, CliFault, IsExplainedOf, IsJudged, IsReadTo, NoMemory, Opens, OrUnread, ReadFault, Row, TextError, Told, TraceError, WhyAnswers, WritesWords, answer_of, fault_of, finding, finding_of, is_record_fault, read-refused, read-whole, rows_of, trace_fault_of, unopened}
 use Rattle.std.specs.declared.result.Result.{Result}
 use Rattle.std.specs.declared.result.Result.TheVariants.{Ok, Err}
-use Rattle.msrp_audit.specs.Audits.{answer_of}
 use Rattle.msrp_text.specs.Lines.{BeginsIn}
-use Rattle.msrp_text.specs.declared.reading.TextError.{TextError}
-use Rattle.msrp_trace.specs.Reading.{Told, rows_of}
-use Rattle.msrp_trace.specs.Readers.{Opens}
-use Rattle.msrp_trace.specs.declared.faults.TraceError.{TraceError}
-use Rattle.msrp_trace.proofs.ReadThrough.{Answers, IsReadTo, read-refused, read-whole, unopened}
 use Rattle.msrp_why.specs.Causes.{IsCauseAfter}
-use Rattle.msrp_why.specs.Noted.{AreNoted}
 use Rattle.msrp_why.specs.declared.causes.Cause.{Cause}
 use Rattle.msrp_why.specs.declared.causes.Ground.TheVariants.{End, Row as AtRow}
 use Rattle.msrp_why.specs.declared.notes.Notes.{Notes}
-use Rattle.msrp_engine.specs.Answered.{OrUnread}
-use Rattle.msrp_engine.specs.Findings.{finding, finding_of}
 use Rattle.msrp_engine.proofs.Judging as judging
-use Rattle.msrp_faults.specs.Outcomes.{fault_of, trace_fault_of}
-use Rattle.msrp_faults.specs.declared.faults.CliFault.{CliFault}
-use Rattle.msrp_faults.specs.declared.faults.CliFault.TheVariants.{Read as ReadFault, Memory as NoMemory}
-use Rattle.msrp_view_engine.specs.Answers.{AreOnTrace, is_record_fault}
-use Rattle.msrp_view_engine.specs.Whys.{BeginsRow, IsExplainedOf, IsJudged, WhyAnswers, WritesWords}
 use Rattle.msrp_view_engine.specs.declared.why.Judged.{Judged}
 use Rattle.msrp_view_engine.specs.declared.words.Words.{Words}
 

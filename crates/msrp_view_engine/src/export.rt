@@ -107,11 +107,12 @@ fn export_plan<T: Read, W: Write>(
     answer_to(Ok(found))
 }
 
-/// Reads a plan and a trace of it, whoever made it, and writes the trace in a format: all of a legal run, and else the rows
-/// before the first that violates a rule, and the fault. The answer is the exit status of an audit, 0 or 1.
+/// Reads a plan and a trace of it, whoever made it, and writes the trace in a format: all of a legal
+/// run, and else the rows before the first that violates a rule, and the fault. The answer is the exit
+/// status of an audit, 0 or 1.
 ///
-/// The rows are judged as they come and written a tick at a time, and no list of them is kept. So where a record of the trace is refused, or a read fails,
-/// the rows before it may have been written. Of a refused plan nothing is.
+/// The rows are judged and written as they come. So where a record of the trace is refused, or a read
+/// fails, the rows before it may have been written. Of a refused plan nothing is.
 #[tactic(auto, using(crate::proofs::Answering::writes))]
 pub fn export_text<P: Read, T: Read, W: Write>(
     alloc: Global,
@@ -120,11 +121,7 @@ pub fn export_text<P: Read, T: Read, W: Write>(
     out: &mut Sink<W>,
     format: Format,
 ) -> Result<u8, CliFault>
-    // Where the readers tell their bytes, and no read failed and no memory was refused, the answer is that to
-    // the plan and the rows that they stand for.
     ensures answer { OfTexts P.remaining T.remaining plan.old trace.old result (λ plan records. ExportAnswers plan records out.old out.new result) }
-
-    // Whatever the readers tell.
     ensures wrote { WroteSome W.contents out.old out.new }
     ensures reads { ReadsBoth P.remaining plan.old plan.new trace.old trace.new result }
     ensures ends { Ends IsVerdict (λ fault. is_audit_fault fault ≡ true) out.new result }

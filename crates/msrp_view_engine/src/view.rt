@@ -79,12 +79,12 @@ pub fn picture_of_texts<P: Read, T: Read>(
     settled(made, trace)
 }
 
-/// Reads a plan and a trace of it, whoever made it, and writes a picture of the ticks that are asked for. The answer is the exit
-/// status of an audit: 0 for a legal run, and 1 else; then the picture shows the rows before the first that violates a rule, and
-/// that one, and in SVG also what follows it. It is [`CliFault::Usage`] where the plan doesn't have such ticks.
+/// Reads a plan and a trace of it, whoever made it, and writes a picture of the ticks that are asked
+/// for. The answer is the exit status of an audit: 0 for a legal run, and 1 else; then the picture
+/// shows the rows before the first that violates a rule, and that one, and in SVG also what follows
+/// it. It is [`CliFault::Usage`] where the plan doesn't have such ticks.
 ///
-/// All memory is taken before anything is written: so whatever the fault, but a write fault, nothing was written. A trace of
-/// which a record is refused isn't drawn. A refused plan is told whatever the trace.
+/// All memory is taken before anything is written. A trace of which a record is refused isn't drawn.
 #[tactic(auto, using(crate::proofs::Answering::writes))]
 pub fn view_text<P: Read, T: Read, W: Write>(
     alloc: Global,
@@ -93,11 +93,7 @@ pub fn view_text<P: Read, T: Read, W: Write>(
     out: &mut Sink<W>,
     asked: Asked,
 ) -> Result<u8, CliFault>
-    // Where the readers tell their bytes, and no read failed and no memory was refused, the answer is that to
-    // the plan and the rows that they stand for.
     ensures answer { OfTexts P.remaining T.remaining plan.old trace.old result (λ plan records. ViewAnswers plan records asked out.old out.new result) }
-
-    // Whatever the readers tell.
     ensures wrote { WroteSome W.contents out.old out.new }
     ensures always { Answered P.remaining (λ fault. is_view_fault fault ≡ true) plan.old plan.new trace.old trace.new out.old out.new result }
 {

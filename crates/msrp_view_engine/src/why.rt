@@ -297,14 +297,14 @@ pub fn why_of_texts<P: Read, T: Read>(
     }
 }
 
-/// Reads a plan and a trace of it, whoever made it, and writes the verdict as [`audit_text`](crate::audit_text) does, and behind
-/// it, in plain sentences, what makes it so: the first row that violates a rule, the rule, the row expected in its place, and
-/// the facts that the rule needs; of a legal trace, what its run exercised. The answer is the exit status, 0 or 1. Of a trace with a
-/// refused record it writes the code, the field that is wrong, what it should be, and the record as it stands; the answer is the refusal. Of a row
-/// and of a refused record it tells the line in which its record begins, where that is known.
+/// Reads a plan and a trace of it, whoever made it, and writes the verdict as
+/// [`audit_text`](crate::audit_text) does, and behind it what makes it so: the first row that violates
+/// a rule, the rule, the row expected in its place, and the facts that the rule needs; of a legal
+/// trace, what its run exercised. The answer is the exit status, 0 or 1. Of a refused record it writes
+/// what is wrong and the record as it stands; the answer is the refusal.
 ///
-/// The rows are judged as they come, and one is kept at a time. All memory is taken before anything is written. Of a refused plan nothing is
-/// written.
+/// The rows are judged as they come, and one is kept at a time. All memory is taken before anything is
+/// written. Of a refused plan nothing is.
 #[tactic(auto, using(crate::proofs::Answering::writes))]
 pub fn why_text<P: Read, T: Read, W: Write>(
     alloc: Global,
@@ -312,11 +312,7 @@ pub fn why_text<P: Read, T: Read, W: Write>(
     trace: &mut Source<T>,
     out: &mut Sink<W>,
 ) -> Result<u8, CliFault>
-    // Where the readers tell their bytes, and no read failed and no memory was refused, the answer is that to
-    // the plan and the rows that they stand for.
     ensures answer { OfTexts P.remaining T.remaining plan.old trace.old result (λ plan records. WhyAnswers W.contents plan records out.old out.new result) }
-
-    // Whatever the readers tell.
     ensures wrote { WroteSome W.contents out.old out.new }
     ensures reads { ReadsBoth P.remaining plan.old plan.new trace.old trace.new result }
     ensures ends { Ends IsVerdict (λ fault. is_audit_fault fault ≡ true) out.new result }

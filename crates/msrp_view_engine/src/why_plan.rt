@@ -2,7 +2,7 @@
 ghost use Rattle.std.specs.Prelude.{◌≡◌, ◌⊎◌, ◌-◌};
 ghost use Rattle.msrp_plan.specs.Common.{ℕ, List, [], true, false, Ok, Some, Err, map, take, IfOk, IfErr, OnOk, source_failed, source_remaining, WroteSome};
 ghost use Rattle.csv.specs.Records.{fields_of};
-ghost use Rattle.msrp_text.specs.Reading.{csv_records, plan_of, record_at};
+ghost use Rattle.msrp_text.specs.Reading.{csv_records, plan_of};
 ghost use Rattle.msrp_engine.specs.Answered.{Ends, IsDone, OrUnread};
 ghost use Rattle.msrp_faults.specs.Outcomes.{fault_of, is_sim_fault};
 ghost use Rattle.msrp_view_engine.specs.Answers.{IsOnPlan, WhyPlanAnswers, plan_found};
@@ -150,11 +150,7 @@ pub fn why_plan_text<P: Read, W: Write>(
     plan: &mut Source<P>,
     out: &mut Sink<W>,
 ) -> Result<u8, CliFault>
-    // Where the reader tells its bytes, and no read failed and no memory was refused, the answer is that to
-    // them and to the plan that they stand for.
     ensures answer { (bytes : List ℕ) → source_remaining P.remaining plan.old ≡ Some bytes → OrUnread result (WhyPlanAnswers (plan_of (csv_records bytes)) out.new result) }
-
-    // Whatever the reader tells.
     ensures wrote { WroteSome W.contents out.old out.new }
     ensures read { result ≡ Err CliFault.Read → source_failed plan.new ≡ true }
     ensures memory { result ≡ Err CliFault.Memory → source_failed plan.new ≡ false }

@@ -3,10 +3,9 @@ use Rattle.msrp_plan.proofs.Common.{ℕ, [], Bool, true, false, cond, nat_lt, Li
 use Rattle.msrp_plan.specs.declared.faults.Fault.{Fault}
 use Rattle.msrp_plan.specs.declared.faults.Rule.{Rule}
 use Rattle.msrp_plan.specs.declared.faults.Rule.TheVariants.{A7}
-use Rattle.msrp_plan.specs.declared.rows.Row.{Row}
+use Rattle.msrp_why.proofs.Common.{Row, has_turn}
 use Rattle.std.proofs.Common.{◌≡◌, ◌+◌, ◌*◌, ◌≤◌, ◌++◌, ◌∷◌, ◌∙◌, ltb-true, filter}
 use Rattle.msrp_plan.specs.Verdict.{fault_from}
-use Rattle.msrp_audit.specs.Audits.{has_turn}
 use Rattle.msrp_levels.proofs.Gathered.{gather_no, gather_yes}
 
 -- a row without a fault is expected, and breaks no rule

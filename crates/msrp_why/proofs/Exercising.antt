@@ -1,22 +1,13 @@
 -- What a run exercised, one row more.
 use Rattle.msrp_plan.proofs.Common.{All-contains, All-from_recursion, Contains, core_jobs_below, each_at, each_before, least_in, log_of, ℕ, suc, max, Bool, true, false, cond, not, nat_lt, List, [], Option, Some, None, refl, ap, sym, arith, length, length-append, append-nil, append_assoc, inl, inr, ForSome, mul-le-mul_left, and_parts, not-true, count_after, is_before, done, is_job, is_released, is_started, jobs_of, jobs_on, PlanModel, is_on, IsLegal, IsRunStart, IsPlan, is_job_is, same_self, IsTurn, legal_turn, turn_chosen, turn_core, least_passes, is_queue, units}
-use Rattle.msrp_plan.specs.declared.ids.JobId.{JobId}
-use Rattle.msrp_plan.specs.declared.rows.Row.{Row}
+use Rattle.msrp_why.proofs.Common.{AreResourceCounts, IsCoreState, JobId, Row, is_entry, is_grant, is_in_tick, last_change, max-zero, most_after, nothing_done, option_map_or, own_is, queue_rows, queued_with}
 use Rattle.std.proofs.Common.{◌≡◌, ◌+◌, ◌<◌, ◌≤◌, ◌&&◌, ◌∷◌, ◌++◌, ◌∙◌, lt-ltb, ◌==◌}
-use Rattle.std.proofs.Math.Nat.{max-zero}
-use Rattle.msrp_core.specs.CoreStates.{IsCoreState}
 use Rattle.msrp_core.specs.declared.states.CoreState.{CoreState}
 use Rattle.msrp_plan.proofs.Blocking.SectionRows.{count_after_push}
-use Rattle.msrp_plan.proofs.Choosing.Live.{nothing_done}
 use Rattle.msrp_plan.proofs.Choosing.Turns.{has_turn}
 use Rattle.msrp_plan.proofs.Runs.CoreRuns.{reached_tick}
-use Rattle.msrp_audit.proofs.Judging.{own_is}
-use Rattle.msrp_why.specs.Noted.{AreResourceCounts, is_entry, is_in_tick, most_after, queued_with}
-use Rattle.msrp_why.specs.Inside.{is_job_of, units_done, one_if}
-use Rattle.msrp_why.specs.NumberedRows.{last_change, queue_rows}
+use Rattle.msrp_why.specs.Noted.{is_job_of, units_done, one_if}
 use Rattle.msrp_why.specs.declared.exercise.ResourceCounts.{ResourceCounts}
-use Rattle.msrp_plan.specs.Laws.{is_grant}
-use Rattle.std.specs.Option.{option_map_or}
 
 -- a row of a run is in its core's next tick
 pub tick_is : (plan : PlanModel) (rows : List Row) (r : Row) → IsRunStart plan (rows ++ r ∷ []) → length (log_of r.core.0 rows) ≡ r.tick

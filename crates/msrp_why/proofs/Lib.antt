@@ -1,3 +1,4 @@
+pub mod Common
 pub mod Causing
 pub mod Exercising
 pub mod Noting

@@ -1,21 +1,11 @@
 -- A local resource's last change is its holder's lock.
 use Rattle.std.proofs.Common.{◌≡◌, ◌+◌, ◌||◌, ◌∷◌, ◌++◌, ◌∙◌}
 use Rattle.msrp_plan.proofs.Common.{ℕ, Bool, true, false, cond, not, List, [], Option, Some, None, refl, ap, sym, subst, arith, take, slice_get, append_assoc, or-false, IsSomeAnd, true≢false, PlanModel, units, is_lock_of, is_unlock_of, holds_after, done, holds, is_queued, is_row_of, is_waiting, is_global, is_global_unit, allows, res_of_unit, is_on, EachAfter, IsLegal, IsRunStart, JobState, IsPlan, is_job, is_job_is, row_of_job, some_is, DoesUnit, IsTurn, idle_res, legal_turn, along, each_at, units_lock, held_unlock}
-use Rattle.msrp_plan.specs.declared.ids.JobId.{JobId}
-use Rattle.msrp_plan.specs.declared.ids.ResId.{ResId}
-use Rattle.msrp_plan.specs.declared.rows.Kind.{Kind}
-use Rattle.msrp_plan.specs.declared.rows.Kind.TheVariants.{Lock, Unlock, Release}
-use Rattle.msrp_plan.specs.declared.rows.Row.{Row}
-use Rattle.msrp_plan.specs.declared.units.Op.{Op}
-use Rattle.msrp_plan.specs.declared.units.Op.TheVariants.{Run as RunUnit, Lock as LockUnit, Unlock as UnlockUnit}
-use Rattle.msrp_plan.specs.Laws.{IsHeldByOne}
-use Rattle.std.proofs.lemmas.Bool.{eqb-true}
-use Rattle.msrp_plan.proofs.Choosing.Live.{holds_kept}
+use Rattle.msrp_why.proofs.Common.{IsHeldByOne, IsLockBy, JobId, Kind, Lock, LockUnit, Op, Release, ResId, Row, RunUnit, Unlock, UnlockUnit, eqb-true, holds_kept, last_change}
 use Rattle.msrp_plan.proofs.Holding.Exclusion.{mutual_exclusion}
 use Rattle.msrp_plan.proofs.Jobs.States.{state_moved}
 use Rattle.msrp_plan.proofs.Lists.Prefixes.{each_from}
 use Rattle.msrp_plan.proofs.TaskUnits.UnitCounts.{held_in, held_lock, held_other}
-use Rattle.msrp_why.specs.NumberedRows.{IsLockBy, last_change}
 use Rattle.msrp_why.proofs.Noting.{last_off, last_on}
 
 -- a unit is on a resource if it locks or unlocks it

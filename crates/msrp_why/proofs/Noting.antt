@@ -1,27 +1,14 @@
 -- What is noted of the resources stays what the rows say, one row more.
 use Rattle.std.proofs.Common.{◌≡◌, ◌≢◌, ◌+◌, ◌-◌, ◌^◌, ◌<◌, ◌≤◌, ◌&&◌, ◌∷◌, ◌++◌, ◌∙◌, ◌||◌}
 use Rattle.msrp_plan.proofs.Common.{ℕ, zero, suc, min, Bool, true, false, cond, List, [], Option, Some, None, refl, ap, sym, subst, arith, length, length-append, drop, append-nil, is_some, map, slice_get, slice_set, Contains, cons_option, filter, true≢false, and_parts, drop-append-le, drop-drop, length-map, filter-append, fold_push, sum_by_push, PlanModel, has_shape, is_global, resources, done, holds, is_queued, is_global_unit, res_of_unit, fifo, is_first, is_on, is_release, is_release_of, is_request, EachAfter, IsLegal, IsRunStart, IsPlan, same_is, in_resources, DoesUnit, legal_turn, not_equal, units_lock, list_any, range_with_len, allows, start_last, start_before}
-use Rattle.msrp_plan.specs.declared.ids.JobId.{JobId}
-use Rattle.msrp_plan.specs.declared.ids.ResId.{ResId}
-use Rattle.msrp_plan.specs.declared.rows.Kind.{Kind}
-use Rattle.msrp_plan.specs.declared.rows.Kind.TheVariants.{Lock, Queue, Run, Take, Unlock}
-use Rattle.msrp_plan.specs.declared.rows.Row.{Row}
+use Rattle.msrp_why.proofs.Common.{AreResourcesNoted, IsNoted, JobId, Kind, Lock, LockUnit, Numbered, Op, Queue, ResId, ResourceNotes, Row, Run, RunUnit, Take, Unlock, UnlockUnit, changes, eqb-true, is_change, is_inside, is_user, job_of, last_change, last_row, min-eq_left, numbered, option_map, option_map_or, queue_rows, requests}
 use Rattle.std.specs.List.{fold}
-use Rattle.std.specs.Option.{option_map, option_map_or}
-use Rattle.std.proofs.Math.Nat.{min-eq_left}
-use Rattle.std.proofs.lemmas.Bool.{eqb-true}
 use Rattle.std.proofs.lemmas.List.{drop-map}
-use Rattle.msrp_plan.specs.declared.units.Op.TheVariants.{Run as RunUnit, Lock as LockUnit, Unlock as UnlockUnit}
 use Rattle.msrp_plan.proofs.Holding.Holders.{orderly_at}
 use Rattle.msrp_plan.proofs.Queues.Fifos.{IsFed, fifo_request, released, requested, requesting}
 use Rattle.msrp_plan.proofs.Queues.QueueMembers.{queue_at, queue_short}
 use Rattle.msrp_plan.proofs.TaskUnits.Stands.{holder_stands}
-use Rattle.msrp_why.specs.Noted.{is_inside, is_user, IsNoted, AreResourcesNoted}
-use Rattle.msrp_why.specs.NumberedRows.{changes, is_change, job_of, last_change, last_row, numbered, queue_rows, requests}
-use Rattle.msrp_why.specs.declared.notes.Numbered.{Numbered}
-use Rattle.msrp_why.specs.declared.notes.ResourceNotes.{ResourceNotes}
 use Rattle.msrp_why.proofs.Exercising.{counts_off, few_before}
-use Rattle.msrp_plan.specs.declared.units.Op.{Op}
 
 -- ---- the rows with their numbers, one more
 abbrev pub entry : ℕ → Row → Numbered

@@ -1,4 +1,2 @@
-pub mod NumberedRows
 pub mod Noted
 pub mod Causes
-pub mod Inside

@@ -1,18 +1,56 @@
 -- What is noted of a run as its rows are judged: who holds and awaits each resource, and what the
 -- run exercised, in numbers of its rows. A trace in which nothing happens is legal too.
-use Rattle.std.specs.Prelude.{◌∷◌, ◌++◌, ◌+◌, ◌==◌, ◌&&◌, ◌≡◌, if◌then◌else◌, ◌||◌}
-use Rattle.msrp_plan.specs.Common.{ℕ, List, [], Bool, false, not, nat_le, max, length, Option, Some, option_map, count_after, ceiling, head, running, done, is_waiting, same_job, level, PlanModel, key, units, is_on, list_any, range_with_len, is_job, same_kind, is_grant, is_queue, is_request, slice_get}
+use Rattle.std.specs.Prelude.{◌∷◌, ◌++◌, ◌+◌, ◌==◌, ◌&&◌, ◌≡◌, if◌then◌else◌, ◌||◌, filter, ◌-◌, ◌^◌}
+use Rattle.msrp_plan.specs.Common.{ℕ, List, [], Bool, false, not, nat_le, max, length, Option, Some, option_map, count_after, ceiling, head, running, done, is_waiting, same_job, level, PlanModel, key, units, is_on, list_any, range_with_len, is_job, same_kind, is_grant, is_queue, is_request, slice_get, None, drop, fold, count_by, is_release, is_release_of, min, nat_lt, jobs_of}
 use Rattle.std.specs.Option.{option_map_or}
 use Rattle.msrp_plan.specs.declared.ids.JobId.{JobId}
 use Rattle.msrp_plan.specs.declared.rows.Kind.{Kind}
-use Rattle.msrp_plan.specs.declared.rows.Kind.TheVariants.{Lock, Take}
+use Rattle.msrp_plan.specs.declared.rows.Kind.TheVariants.{Lock, Take, Unlock}
 use Rattle.msrp_plan.specs.declared.rows.Row.{Row}
-use Rattle.msrp_why.specs.NumberedRows.{last_change, queue_rows, last_row}
 use Rattle.msrp_why.specs.declared.exercise.ResourceCounts.{ResourceCounts}
 use Rattle.msrp_why.specs.declared.exercise.TurnCounts.{TurnCounts}
 use Rattle.msrp_why.specs.declared.notes.Numbered.{Numbered}
 use Rattle.msrp_why.specs.declared.notes.Notes.{Notes}
 use Rattle.msrp_why.specs.declared.notes.ResourceNotes.{ResourceNotes}
+use Rattle.msrp_core.specs.declared.states.CoreState.{CoreState}
+
+-- ---- rows with their numbers
+-- rows with their numbers, where so many come before
+abbrev pub numbered : ℕ → List Row → List Numbered
+numbered n [] = []
+numbered n (r ∷ rows) = record { number = n + 1; row = r } ∷ numbered (n + 1) rows
+
+-- the job of a row
+abbrev pub job_of : Numbered → Option JobId
+job_of e = e.row.job
+
+-- a request of the resource
+abbrev pub requests : ℕ → Numbered → Bool
+requests g e = is_on g e.row.res && is_request e.row.kind
+
+-- the rows of those who stand in the queue of a resource: its requests, in order, without as many
+-- at the front as released it
+abbrev pub queue_rows : ℕ → List Row → List Numbered
+queue_rows g rows = drop (count_by (is_release_of g) rows) (filter (requests g) (numbered 0 rows))
+
+abbrev pub is_change : Kind → Bool
+is_change k = same_kind k Lock || (same_kind k Unlock || is_release k)
+
+-- a lock, an unlock or a release of the resource
+abbrev pub changes : ℕ → Numbered → Bool
+changes g e = is_on g e.row.res && is_change e.row.kind
+
+-- the last of them
+abbrev pub last_change : ℕ → List Row → Option Numbered
+last_change g rows = fold (λ _ e. Some e) None (filter (changes g) (numbered 0 rows))
+
+-- a lock of the job
+abbrev pub IsLockBy : JobId → Numbered → Type 0
+IsLockBy j e = (e.row.kind ≡ Lock) × (e.row.job ≡ Some j)
+
+-- the last of the rows
+abbrev pub last_row : List Row → Option Numbered
+last_row rows = fold (λ _ e. Some e) None (numbered 0 rows)
 
 -- ---- the rows on a resource
 -- the row enters a resource that is free
@@ -122,3 +160,16 @@ pub record AreNoted (plan : PlanModel) (rows : List Row) (notes : Notes) : Type 
   pub last : notes.last ≡ last_row rows
   pub resources : AreResourcesNoted plan rows notes.resources.items
   pub turns : AreTurnCounts plan rows notes.turns
+
+-- ---- a turn by the state of its core before it, and a count with one row more
+-- there is such a job
+abbrev pub is_job_of : PlanModel → JobId → Bool
+is_job_of plan j = nat_lt j.task.0 (length plan.tasks) && nat_lt j.k (length (jobs_of plan j.task.0))
+
+-- how many of its units the job has done: a job that doesn't run yet has done none
+abbrev pub units_done : CoreState → JobId → ℕ
+units_done s j = if is_job s.running j then s.done else 0
+
+-- one more, if so, up to the greatest number that is stored
+abbrev pub one_if : ℕ → Bool → ℕ
+one_if n b = min (n + (if b then 1 else 0)) (2 ^ 32 - 1)

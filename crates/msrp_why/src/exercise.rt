@@ -5,8 +5,7 @@ ghost use Rattle.msrp_plan.specs.Common.{[], List, length, max, not, true, false
 ghost use Rattle.std.specs.Option.{option_map_or};
 ghost use Rattle.msrp_plan.specs.declared.rows.Row.{Row as TraceRow};
 ghost use Rattle.msrp_core.specs.CoreStates.{IsCoreState};
-ghost use Rattle.msrp_why.specs.Noted.{AreTurnCounts, is_at, is_at_most, is_entry, is_in_tick, is_other, nests};
-ghost use Rattle.msrp_why.specs.Inside.{is_job_of, one_if, units_done};
+ghost use Rattle.msrp_why.specs.Noted.{AreTurnCounts, is_at, is_at_most, is_entry, is_in_tick, is_job_of, is_other, nests, one_if, units_done};
 
 use crate::notes::Numbered;
 use msrp_core::CoreState;
@@ -72,12 +71,6 @@ fn is_at(value: Option<u64>, at: u64) -> bool
     value.is_some_and(|value| value == at)
 }
 
-fn is_in_tick(tick: u32, last: Option<Numbered>) -> bool
-    ensures { result ≡ is_in_tick tick last }
-{
-    last.is_some_and(|change| change.row.tick == tick)
-}
-
 impl ResourceCounts {
     /// After a row on the resource, before which this was its last change, and after which so many
     /// are in its queue.
@@ -89,7 +82,7 @@ impl ResourceCounts {
         ensures longest { self.new.longest ≡ max self.old.longest queued }
     {
         let granted = matches!(row.kind, Kind::Grant);
-        let at_once = is_in_tick(row.tick, last);
+        let at_once = last.is_some_and(|change| change.row.tick == row.tick);
         self.free = one_if(self.free, matches!(row.kind, Kind::Lock | Kind::Take));
         self.joined = one_if(self.joined, matches!(row.kind, Kind::Queue));
         self.at_once = one_if(self.at_once, granted && at_once);

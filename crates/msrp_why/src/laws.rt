@@ -3,7 +3,7 @@ ghost use Rattle.std.specs.Prelude.{◌≡◌};
 ghost use Rattle.msrp_plan.specs.Common.{ℕ, List, Some, false, map, option_map, slice_get, true, IsSomeAnd, holds, is_global, PlanModel, fifo, IsRunStart, IsPlan};
 ghost use Rattle.msrp_plan.specs.declared.ids.JobId.{JobId};
 ghost use Rattle.msrp_plan.specs.declared.rows.Row.{Row};
-ghost use Rattle.msrp_why.specs.NumberedRows.{IsLockBy, job_of, last_change, queue_rows};
+ghost use Rattle.msrp_why.specs.Noted.{IsLockBy, job_of, last_change, queue_rows};
 
 /// Who stands in a queue by the rows that are noted is the queue of the policy, in its order,
 /// whatever the rows are.

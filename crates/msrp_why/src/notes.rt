@@ -4,9 +4,8 @@ ghost use Rattle.std.specs.Prelude.{◌≡◌, ◌<◌, ◌+◌, ◌&&◌, ◌++
 ghost use Rattle.msrp_plan.specs.Common.{[], ℕ, List, Some, IfOk, drop, false, length, true, is_on, is_release, is_request, IsRunStart, PlanModel, IsPlan, list_any};
 ghost use Rattle.std.specs.Option.{option_map_or};
 ghost use Rattle.msrp_plan.specs.declared.rows.Row.{Row as TraceRow};
-ghost use Rattle.msrp_why.specs.NumberedRows.{is_change};
+ghost use Rattle.msrp_why.specs.Noted.{AreNoted, AreResourcesNoted, IsNoted, is_by, is_change, is_locker, is_opening, is_user};
 ghost use Rattle.msrp_core.specs.CoreStates.{IsStateAfter};
-ghost use Rattle.msrp_why.specs.Noted.{AreNoted, AreResourcesNoted, IsNoted, is_by, is_locker, is_opening, is_user};
 
 use crate::exercise::{ResourceCounts, TurnCounts};
 use arrayvec::ArrayVec;

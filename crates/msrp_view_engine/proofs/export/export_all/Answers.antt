@@ -1,11 +1,6 @@
 use Rattle.std.proofs.Common.{◌≡◌}
 use Rattle.msrp_plan.proofs.Common.{rules, Some, Err, sym, subst}
-use Rattle.msrp_text.specs.Reading.{csv_records}
-use Rattle.msrp_trace.specs.Reading.{rows_of}
-use Rattle.msrp_trace.specs.Readers.{told_left}
-use Rattle.msrp_faults.specs.Outcomes.{trace_fault_of}
-use Rattle.msrp_trace.proofs.ReadThrough.{opened}
-use Rattle.msrp_engine.proofs.Judging.{unopened-found}
+use Rattle.msrp_view_engine.proofs.Common.{csv_records, opened, rows_of, told_left, trace_fault_of, unopened-found}
 use Rattle.msrp_view_engine.proofs.export.export_all.Goals as goal
 
 pub returns-in_err-reader-clause-found : goal.returns-in_err-reader-clause-found

@@ -1,11 +1,6 @@
 use Rattle.std.proofs.Common.{◌≡◌, ◌++◌, ◌∷◌, ◌∙◌}
 use Rattle.msrp_plan.proofs.Common.{rules, refl, [], Ok, Err, ap, sym, subst, inr, PlanModel, verdict, some-more}
-use Rattle.msrp_audit.specs.Audits.{answer_of}
-use Rattle.msrp_faults.specs.Outcomes.{trace_fault_of}
-use Rattle.msrp_trace.proofs.ReadThrough.{none-read}
-use Rattle.msrp_engine.specs.Findings.{finding}
-use Rattle.msrp_engine.proofs.Judging.{IsFound}
-use Rattle.msrp_engine.proofs.RowsJudged.{HaveCome, broken-found, end-found, error-found, fewer-turns, row-came}
+use Rattle.msrp_view_engine.proofs.Common.{HaveCome, IsFound, answer_of, broken-found, end-found, error-found, fewer-turns, finding, none-read, row-came, trace_fault_of}
 use Rattle.msrp_view_engine.proofs.export.export_rows.Goals as goal
 
 pub loop-exporter-init : goal.loop-exporter-init

@@ -1,7 +1,6 @@
 use Rattle.std.proofs.Common.{◌*◌, ◌-◌}
 use Rattle.msrp_plan.proofs.Common.{List, WroteSome}
-use Rattle.msrp_plan.specs.declared.rows.Row.{Row}
-use Rattle.msrp_engine.proofs.RowsJudged.{HaveCome}
+use Rattle.msrp_view_engine.proofs.Common.{HaveCome, Row}
 use Rattle.msrp_view_engine.proofs.export.export_rows.Given as goal
 
 abbrev pub invariant-loop-exporter : goal.invariant-loop-exporter

@@ -1,6 +1,4 @@
-use Rattle.msrp_text.specs.Reading.{csv_records, plan_of}
-use Rattle.msrp_engine.proofs.Answered.{settled_from_plan}
-use Rattle.msrp_view_engine.specs.Answers.{ExportAnswers}
+use Rattle.msrp_view_engine.proofs.Common.{ExportAnswers, csv_records, plan_of, settled_from_plan}
 use Rattle.msrp_view_engine.proofs.export.export_text.Goals as goal
 
 pub returns-clause-answer : goal.returns-clause-answer

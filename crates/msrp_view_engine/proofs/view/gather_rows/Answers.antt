@@ -1,9 +1,6 @@
 use Rattle.std.proofs.Common.{◌≡◌, ◌++◌, ◌∷◌, ◌∙◌}
 use Rattle.msrp_plan.proofs.Common.{rules, [], List, Ok, Err, ap, subst, sym, inr}
-use Rattle.msrp_plan.specs.declared.rows.Row.{Row}
-use Rattle.msrp_trace.specs.Readers.{told_left}
-use Rattle.msrp_faults.specs.Outcomes.{trace_fault_of}
-use Rattle.msrp_trace.proofs.ReadThrough.{IsReadTo, none-read, read-refused, read-row}
+use Rattle.msrp_view_engine.proofs.Common.{IsReadTo, Row, none-read, read-refused, read-row, told_left, trace_fault_of}
 use Rattle.msrp_view_engine.proofs.ReadThrough.{all-read, error-read}
 use Rattle.msrp_view_engine.proofs.view.gather_rows.Goals as goal
 

@@ -1,8 +1,6 @@
 use Rattle.std.proofs.Common.{◌≡◌}
 use Rattle.msrp_plan.proofs.Common.{Some}
-use Rattle.msrp_trace.specs.Reading.{Told}
-use Rattle.msrp_trace.specs.Readers.{told_left}
-use Rattle.msrp_trace.proofs.ReadThrough.{IsReadTo}
+use Rattle.msrp_view_engine.proofs.Common.{IsReadTo, Told, told_left}
 use Rattle.msrp_view_engine.proofs.view.gather_rows.Given as goal
 
 abbrev pub invariant-loop-row : goal.invariant-loop-row

@@ -1,11 +1,7 @@
 use Rattle.std.proofs.Common.{◌≡◌, ◌∙◌}
 use Rattle.msrp_plan.proofs.Common.{rules, Err, ap, refl}
 use Rattle.msrp_text.specs.Records.{csv_records}
-use Rattle.msrp_faults.specs.Outcomes.{trace_fault_of}
-use Rattle.msrp_trace.specs.Reading.{Told, rows_of}
-use Rattle.msrp_trace.proofs.ReadThrough.{unopened}
-use Rattle.msrp_engine.specs.MadeTexts.{found_in}
-use Rattle.msrp_view_engine.specs.Answers.{verdict_on}
+use Rattle.msrp_view_engine.proofs.Common.{Told, found_in, rows_of, trace_fault_of, unopened, verdict_on}
 use Rattle.msrp_view_engine.proofs.Answering.{err-unread}
 use Rattle.msrp_view_engine.proofs.ReadThrough.{error-read}
 use Rattle.msrp_view_engine.proofs.view.picture_of.Goals as goal

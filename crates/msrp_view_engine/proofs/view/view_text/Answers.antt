@@ -1,7 +1,6 @@
 use Rattle.std.proofs.Common.{◌≡◌, ◌∙◌}
 use Rattle.msrp_plan.proofs.Common.{rules, Err, ap, refl, subst}
-use Rattle.msrp_faults.specs.Outcomes.{answered}
-use Rattle.msrp_view_engine.specs.Answers.{Tells}
+use Rattle.msrp_view_engine.proofs.Common.{Tells, answered}
 use Rattle.msrp_view_engine.proofs.Answering.{err-unread, ok-unread}
 use Rattle.msrp_view_engine.proofs.view.view_text.Goals as goal
 

@@ -1,6 +1,4 @@
-use Rattle.msrp_text.specs.Reading.{csv_records, plan_of}
-use Rattle.msrp_engine.proofs.Answered.{settled_from_plan}
-use Rattle.msrp_view_engine.specs.Whys.{IsExplainedOf}
+use Rattle.msrp_view_engine.proofs.Common.{IsExplainedOf, csv_records, plan_of, settled_from_plan}
 use Rattle.msrp_view_engine.proofs.why.explain.Goals as goal
 
 pub returns-clause-explained : goal.returns-clause-explained

@@ -1,9 +1,6 @@
 use Rattle.std.proofs.Common.{◌≡◌}
 use Rattle.msrp_plan.proofs.Common.{Some, subst, sym}
-use Rattle.msrp_trace.specs.Readers.{told_left}
-use Rattle.msrp_text.specs.Reading.{csv_records}
-use Rattle.msrp_trace.specs.Reading.{rows_of}
-use Rattle.msrp_trace.proofs.ReadThrough.{opened}
+use Rattle.msrp_view_engine.proofs.Common.{csv_records, opened, rows_of, told_left}
 use Rattle.msrp_view_engine.proofs.Explaining.{refused-explained, unopened-judged}
 use Rattle.msrp_view_engine.proofs.why.explain_all.Goals as goal
 

@@ -1,5 +1,5 @@
 use Rattle.msrp_plan.proofs.Common.{subst}
-use Rattle.msrp_view_engine.specs.Whys.{IsJudged}
+use Rattle.msrp_view_engine.proofs.Common.{IsJudged}
 use Rattle.msrp_view_engine.proofs.Explaining.{judged-explained, refused-explained}
 use Rattle.msrp_view_engine.proofs.why.explain_rows.Goals as goal
 

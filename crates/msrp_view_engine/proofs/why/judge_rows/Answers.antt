@@ -1,12 +1,8 @@
 use Rattle.std.proofs.Common.{◌≡◌, ◌++◌, ◌∷◌, ◌∙◌}
 use Rattle.msrp_plan.proofs.Common.{rules, [], None, Ok, Err, IfErr, ap, sym, subst, PlanModel, fault_in, verdict}
-use Rattle.msrp_plan.specs.declared.rows.Row.{Row}
-use Rattle.msrp_audit.specs.Audits.{AuditorModel, IsBroken, answer_of}
+use Rattle.msrp_view_engine.proofs.Common.{AuditorModel, HasReadBehind, HasReadIn, IsBroken, Row, answer_of, came-good, fewer-turns, next-gives, none-came, read-row, row-came}
 use Rattle.msrp_core.specs.CoreStates.{IsStateAfter}
-use Rattle.msrp_trace.specs.Readers.{HasReadBehind, HasReadIn}
-use Rattle.msrp_trace.proofs.ReadThrough.{read-row}
 use Rattle.msrp_engine.specs.Judging.{IfCame, IsJudged, row_told}
-use Rattle.msrp_engine.proofs.RowsJudged.{came-good, fewer-turns, next-gives, none-came, row-came}
 use Rattle.msrp_why.proofs.Causing.{good_start}
 use Rattle.msrp_view_engine.proofs.Explaining.{cause-found, end-found, line-found, refusal-judged}
 use Rattle.msrp_view_engine.proofs.why.judge_rows.Goals as goal

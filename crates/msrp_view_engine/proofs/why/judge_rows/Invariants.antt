@@ -1,9 +1,6 @@
 use Rattle.std.proofs.Common.{◌*◌, ◌-◌}
 use Rattle.msrp_plan.proofs.Common.{ℕ, List}
-use Rattle.msrp_plan.specs.declared.rows.Row.{Row}
-use Rattle.msrp_trace.specs.Readers.{HasReadIn}
-use Rattle.msrp_engine.proofs.RowsJudged.{HaveCome}
-use Rattle.msrp_why.specs.Noted.{AreNoted}
+use Rattle.msrp_view_engine.proofs.Common.{AreNoted, HasReadIn, HaveCome, Row}
 use Rattle.msrp_view_engine.proofs.why.judge_rows.Given as goal
 
 abbrev pub invariant-loop-notes : goal.invariant-loop-notes

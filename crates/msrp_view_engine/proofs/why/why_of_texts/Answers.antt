@@ -1,7 +1,6 @@
 use Rattle.std.proofs.Common.{◌≡◌, ◌∙◌}
 use Rattle.msrp_plan.proofs.Common.{rules, Ok, Err, IfOk, ap, subst, sym}
-use Rattle.msrp_engine.specs.MadeTexts.{found_in}
-use Rattle.msrp_view_engine.specs.Answers.{BeginsWith}
+use Rattle.msrp_view_engine.proofs.Common.{BeginsWith, found_in}
 use Rattle.msrp_view_engine.proofs.Answering.{err-unread, ok-unread}
 use Rattle.msrp_view_engine.proofs.Explaining.{found-none, found-words}
 use Rattle.msrp_view_engine.proofs.why.why_of_texts.Goals as goal

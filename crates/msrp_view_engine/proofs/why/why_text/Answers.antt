@@ -1,7 +1,6 @@
 use Rattle.std.proofs.Common.{◌≡◌, ◌∙◌}
 use Rattle.msrp_plan.proofs.Common.{rules, Err, ap, refl, subst, sym}
-use Rattle.msrp_faults.specs.Outcomes.{answered}
-use Rattle.msrp_view_engine.specs.Answers.{BeginsWith}
+use Rattle.msrp_view_engine.proofs.Common.{BeginsWith, answered}
 use Rattle.msrp_view_engine.proofs.Answering.{err-unread, ok-unread}
 use Rattle.msrp_view_engine.proofs.Explaining.{unwritten, written}
 use Rattle.msrp_view_engine.proofs.why.why_text.Goals as goal

@@ -1,7 +1,6 @@
 use Rattle.std.proofs.Common.{◌≡◌, ◌∙◌, ◌∷◌, ◌++◌}
 use Rattle.msrp_plan.proofs.Common.{rules, [], Some, true, false, ap, arith, map, take, map-append}
-use Rattle.csv.specs.Records.{fields_of}
-use Rattle.msrp_text.specs.Reading.{csv_records}
+use Rattle.msrp_view_engine.proofs.Common.{csv_records, fields_of}
 use Rattle.msrp_text.proofs.Remaining.{gave-none, gave-one}
 use Rattle.msrp_view_engine.proofs.ReadThrough.{all-taken, one-more}
 use Rattle.msrp_view_engine.proofs.why_plan.first_records.Goals as goal

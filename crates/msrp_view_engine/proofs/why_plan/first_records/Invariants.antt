@@ -1,7 +1,6 @@
 use Rattle.std.proofs.Common.{◌≡◌, ◌≤◌}
 use Rattle.msrp_plan.proofs.Common.{Some, drop, map, take}
-use Rattle.csv.specs.Records.{fields_of}
-use Rattle.msrp_text.specs.Reading.{csv_records}
+use Rattle.msrp_view_engine.proofs.Common.{csv_records, fields_of}
 use Rattle.msrp_text.specs.Records.{records_left}
 use Rattle.msrp_view_engine.proofs.why_plan.first_records.Given as goal
 

@@ -1,7 +1,6 @@
 use Rattle.std.proofs.Common.{◌≡◌}
 use Rattle.msrp_plan.proofs.Common.{rules, Ok, IfOk, sym, subst}
-use Rattle.msrp_text.specs.Reading.{csv_records, plan_of}
-use Rattle.msrp_view_engine.specs.Answers.{plan_found}
+use Rattle.msrp_view_engine.proofs.Common.{csv_records, plan_found, plan_of}
 use Rattle.msrp_view_engine.proofs.why_plan.why_of_plan.Goals as goal
 
 pub returns-in-Ok-clause-found : goal.returns-in-Ok-clause-found

@@ -1,7 +1,6 @@
 use Rattle.msrp_why.proofs.Causing.{good_start}
 use Rattle.msrp_plan.proofs.Common.{IsSomeAnd, refl, subst, turns_when_due}
-use Rattle.msrp_core.specs.CoreStates.{IsCoreState}
-use Rattle.msrp_audit.proofs.Judging.{due_after}
+use Rattle.msrp_why.proofs.Common.{IsCoreState, due_after}
 use Rattle.msrp_why.proofs.causes.cause_of.Goals as goal
 
 pub returns-clause-cause : goal.returns-clause-cause

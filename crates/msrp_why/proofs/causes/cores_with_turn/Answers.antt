@@ -1,6 +1,6 @@
 use Rattle.msrp_plan.proofs.Common.{arith, length, subst, sym, range_with_len, PlanModel}
 use Rattle.std.proofs.Common.{◌≡◌, ◌<◌, ◌*◌, filter}
-use Rattle.msrp_audit.specs.Audits.{has_turn}
+use Rattle.msrp_why.proofs.Common.{has_turn}
 use Rattle.msrp_why.proofs.Causing.{turns_few, turns_more}
 use Rattle.msrp_why.proofs.causes.cores_with_turn.Goals as goal
 

@@ -1,7 +1,6 @@
 use Rattle.msrp_plan.proofs.Common.{List, None, length, range_with_len}
-use Rattle.msrp_plan.specs.declared.rows.Row.{Row}
+use Rattle.msrp_why.proofs.Common.{HasFed, Row, has_turn}
 use Rattle.std.proofs.Common.{◌≡◌, ◌<◌, ◌≤◌, ◌*◌, filter}
-use Rattle.msrp_audit.specs.Audits.{HasFed, has_turn}
 use Rattle.msrp_why.proofs.causes.cores_with_turn.Given as goal
 
 abbrev pub invariant-loop-core : goal.invariant-loop-core

@@ -1,7 +1,6 @@
 use Rattle.std.proofs.Common.{◌≡◌, ◌∷◌, ◌++◌, ◌∙◌}
 use Rattle.msrp_plan.proofs.Common.{[], Some, ap, arith, eq-eqb, is_on, length, length-set, slice_get, slice_get_read, slice_get_within, refl}
-use Rattle.msrp_why.specs.Noted.{IsNoted}
-use Rattle.msrp_why.specs.declared.notes.ResourceNotes.{ResourceNotes}
+use Rattle.msrp_why.proofs.Common.{IsNoted, ResourceNotes}
 use Rattle.msrp_why.proofs.Noting.{noted_off, off_it, set_each}
 use Rattle.msrp_why.proofs.notes.note_row.Goals as goal
 

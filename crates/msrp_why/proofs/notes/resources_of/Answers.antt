@@ -1,7 +1,6 @@
 use Rattle.std.proofs.Common.{◌+◌, ◌≡◌, ◌∷◌, ◌∙◌}
 use Rattle.msrp_plan.proofs.Common.{None, refl, sym, subst, arith, common_steps, ℕ, List, [], Some, length, length-append, ap, places_push, slice_get}
-use Rattle.msrp_why.specs.Noted.{AreResourceCounts, IsNoted}
-use Rattle.msrp_why.specs.declared.notes.ResourceNotes.{ResourceNotes}
+use Rattle.msrp_why.proofs.Common.{AreResourceCounts, IsNoted, ResourceNotes}
 use Rattle.msrp_why.proofs.notes.resources_of.Goals as goal
 
 pub loop-res-preserved : goal.loop-res-preserved

@@ -1,7 +1,6 @@
 use Rattle.std.proofs.Common.{◌≤◌, ◌≡◌}
 use Rattle.msrp_plan.proofs.Common.{ℕ, [], Some, length, slice_get, vec_capacity}
-use Rattle.msrp_why.specs.Noted.{IsNoted}
-use Rattle.msrp_why.specs.declared.notes.ResourceNotes.{ResourceNotes}
+use Rattle.msrp_why.proofs.Common.{IsNoted, ResourceNotes}
 use Rattle.msrp_why.proofs.notes.resources_of.Given as goal
 
 abbrev pub invariant-loop-res : goal.invariant-loop-res

@@ -2,7 +2,7 @@ use Rattle.std.proofs.Common.{◌≡◌, ◌∙◌, ◌&&◌, ◌+◌}
 use Rattle.msrp_plan.proofs.Common.{ap, sym, not, refl, true, is_waiting, option_map, start_last}
 use Rattle.msrp_plan.specs.Ceiling.{ceiling}
 use Rattle.msrp_plan.specs.Levels.{level as level_by}
-use Rattle.msrp_why.specs.Noted.{deadline_of, is_at, is_at_most, is_other}
+use Rattle.msrp_why.proofs.Common.{deadline_of, is_at, is_at_most, is_other}
 use Rattle.msrp_why.proofs.Exercising.{and_where, few_before, finishes_by, head_known, job_below, job_known, one_more_counted}
 use Rattle.msrp_why.proofs.exercise.TurnCounts.note.Goals as goal
 

@@ -1,9 +1,8 @@
 use Rattle.std.proofs.Common.{◌∙◌, ◌&&◌, ◌∷◌}
 use Rattle.msrp_plan.proofs.Common.{[], ap, length, length-append, sym, subst, legal_due, start_last, IsSomeAnd, log_of}
-use Rattle.msrp_why.specs.Noted.{is_opening}
+use Rattle.msrp_why.proofs.Common.{IsCoreState, is_opening}
 use Rattle.msrp_why.proofs.Exercising.{tick_is}
 use Rattle.msrp_why.proofs.Noting.{last_row_push, nests_noted, one_more}
-use Rattle.msrp_core.specs.CoreStates.{IsCoreState}
 use Rattle.msrp_why.proofs.notes.Notes.note.Goals as goal
 
 pub returns-in-Some : goal.returns-in-Some

@@ -1,9 +1,6 @@
 use Rattle.std.proofs.Common.{◌≡◌, ◌+◌, ◌<◌, ◌&&◌, ◌∷◌, ◌++◌, ◌∙◌}
 use Rattle.msrp_plan.proofs.Common.{rules, List, [], Some, ap, cond, drop, is_queue, is_release, is_request, length, max, not, refl, subst, sym, true}
-use Rattle.msrp_plan.specs.Laws.{is_grant}
-use Rattle.msrp_why.specs.Noted.{is_entry, is_in_tick}
-use Rattle.msrp_why.specs.NumberedRows.{is_change, last_change, queue_rows}
-use Rattle.msrp_why.specs.declared.notes.Numbered.{Numbered}
+use Rattle.msrp_why.proofs.Common.{Numbered, is_change, is_entry, is_grant, is_in_tick, last_change, queue_rows}
 use Rattle.msrp_why.proofs.Exercising.{few_before, most_with, one_more_counted}
 use Rattle.msrp_why.proofs.Noting.{entry, last_on, queue_on, request_short}
 use Rattle.msrp_why.proofs.notes.ResourceNotes.note.Goals as goal
