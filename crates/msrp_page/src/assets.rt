@@ -932,7 +932,7 @@ function element(name, text, className = '') {
 function verdictText() {
   if (!facts.fault) return `A legal run: all ${plural(legalRows, 'row')} obey the plan`;
   const [row, rule] = facts.fault;
-  return `Not a legal run: ${facts.broken ? `row ${row} violates` : `after row ${row - 1} the trace violates`} rule ${rule}`;
+  return `Not a legal run: ${facts.broken ? `row ${row}` : `the trace after row ${row - 1}`} violates rule ${rule}`;
 }
 
 function writeHead() {
