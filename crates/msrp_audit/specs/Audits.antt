@@ -43,7 +43,8 @@ pub record Awaits (a : AuditorModel) (rows : List Row) (c : ℕ) (due : Row) : T
   pub tick : due.tick ≡ length rows / a.plan.cores
   pub stand : (row : Row) → IsAs due row → IsLegal a.plan rows row → StandFor a.cores (rows ++ row ∷ [])
 
--- the row is the next one of the core after these rows: with it they have no fault, and with another one of the core
+-- the row is the next one of the core after these rows: with it they have no fault, and with
+-- another one of the core
 -- they have one, unless that is as this one
 pub record IsDueRow (plan : PlanModel) (rows : List Row) (c : ℕ) (due : Row) : Type 0 where
   pub next : IsNextRow plan rows c due

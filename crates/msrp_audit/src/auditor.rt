@@ -173,8 +173,10 @@ impl<'a> Auditor<'a> {
         self.has_turn(core)
     }
 
-    /// The row that is due of a core that may have its turn now, with its ahead. Fed next, that row has no fault, and of this core
-    /// no other has none, but for one that leaves the ahead out. It is [`Memory`] only where that was refused.
+    /// The row that is due of a core that may have its turn now, with its ahead. Fed next, that row
+    /// has no fault, and of this core
+    /// no other has none, but for one that leaves the ahead out. It is [`Memory`] only where that
+    /// was refused.
     pub fn due_row(&self, alloc: Global, core: CoreId) -> Result<Row, Memory>
         requires { IsDueInAudit self.now core.0 }
         ensures { IfOk result (λ due. (rows : List TraceRow) → HasFed self.now rows → IsDueRow self.now.plan rows core.0 due) }

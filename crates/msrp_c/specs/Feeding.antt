@@ -51,7 +51,8 @@ pub record IsFound (plan : PlanModel) (turns : List MsrpRow) (auditor : AuditorM
 abbrev pub Steps : PlanModel → AuditorModel → MsrpRow → ℕ → AuditorModel → Finding → Type 0
 Steps plan old turn number new found = (turns : List MsrpRow) → old.plan ≡ plan → AreGood plan turns old → number ≡ length turns + 1 → IsFound plan (turns ++ turn ∷ []) new found
 
--- a row after these turns has this fault; where it is in its turn, the row that was due of its core is told
+-- a row after these turns has this fault; where it is in its turn, the row that was due of its core
+-- is told
 pub record IsBrokenAfter (plan : PlanModel) (turns : List MsrpRow) (turn : MsrpRow) (fault : Fault) (b : BrokenRow) : Type 0 where
   pub rows : List Row
   pub read : map (row_of plan) turns ≡ map (λ r. Ok r) rows
@@ -91,7 +92,8 @@ pub record TellsDue (plan : PlanModel) (turns : List MsrpRow) (core : ℕ) (numb
   pub is : IsDueAfter plan turns core due
   pub numbers_are : numbers ≡ numbers_of_row due
 
--- these turns are the start of a legal run and no whole one, and the core has its turn still to come in the tick that is due
+-- these turns are the start of a legal run and no whole one, and the core has its turn still to
+-- come in the tick that is due
 pub record HasDue (plan : PlanModel) (turns : List MsrpRow) (core : ℕ) : Type 0 where
   pub good : found_so_far plan turns ≡ Ok (Ok tt)
   pub more : found_whole plan turns ≢ Ok (Ok tt)

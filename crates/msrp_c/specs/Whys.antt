@@ -33,7 +33,8 @@ abbrev pub AnswersWords : Bool → (Result Words CliFault → Type 0) → List �
 AnswersWords long AreMade old new needed found status = Gives refusal_in words_in long AreMade old new needed found status
 
 -- ---- words on rows that are fed
--- what the words on a finding begin with: of a fault the record of the verdict; there are none while nothing is wrong
+-- what the words on a finding begin with: of a fault the record of the verdict; there are none
+-- while nothing is wrong
 abbrev pub AreReasonsFor : Result (Result ⊤ Fault) CliFault → List ℕ → Type 0
 AreReasonsFor (Ok (Ok good)) text = text ≡ []
 AreReasonsFor (Ok (Err fault)) text = (rest : List ℕ) × (text ≡ verdict_text (Err fault) ++ rest)

@@ -73,7 +73,8 @@ impl<'a> Machine<'a> {
         })
     }
 
-    /// The same machine in memory of its own: its turns are those of the other. It is [`Memory`] only where that was refused.
+    /// The same machine in memory of its own: its turns are those of the other. It is [`Memory`]
+    /// only where that was refused.
     pub fn copied(&self, alloc: Global) -> Result<Machine<'a>, Memory>
         ensures { IfOk result (λ machine. machine ≡ self.now) }
     {

@@ -61,7 +61,8 @@ pub struct JudgedRows<'p, 't, T> {
     texts: RowTexts<'p>,
     // What decided before the last row who had its core's turn, if that was asked.
     state: Option<CoreState>,
-    // The last answer that was read field by field. A local in its place would be zeroed for each row.
+    // The last answer that was read field by field. A local in its place would be zeroed for each
+    // row.
     judged: Result<Judgement, TraceError>,
     ghost plan: { rows.plan.now ≡ auditor.plan },
     ghost texts_plan: { texts.plan ≡ auditor.plan },
@@ -127,7 +128,8 @@ impl<'p, 't, T: Read> JudgedRows<'p, 't, T> {
         &self.rows
     }
 
-    /// What decided before the last row who had its core's turn, as [`JudgedRows::next_with_state`] found it.
+    /// What decided before the last row who had its core's turn, as [`JudgedRows::next_with_state`]
+    /// found it.
     pub fn state(&self) -> Option<CoreState>
         ensures { result ≡ self.now.state }
     {
@@ -315,7 +317,8 @@ impl<'p, 't, T: Read> JudgedRows<'p, 't, T> {
         self.next_by(false)
     }
 
-    /// The same, and [`JudgedRows::state`] then tells what decided before that row who had its core's turn.
+    /// The same, and [`JudgedRows::state`] then tells what decided before that row who had its
+    /// core's turn.
     #[inline(always)]
     pub fn next_with_state(&mut self) -> Result<Judgement, TraceError>
         ensures plan { self.new.auditor.plan ≡ self.old.auditor.plan }

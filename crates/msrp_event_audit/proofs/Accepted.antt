@@ -1,4 +1,5 @@
--- An event that shows nothing finds room for what it changes, and jobs stay those of the system's tasks.
+-- An event that shows nothing finds room for what it changes, and jobs stay those of the system's
+-- tasks.
 use Rattle.std.proofs.Common.{◌≡◌, ◌+◌, ◌<◌, ◌≤◌, ◌^◌, ◌∙◌}
 use Rattle.msrp_plan.proofs.Common.{ℕ, false, cond, List, Option, Some, None, IfSome, refl, ap, sym, subst, inl, inr, arith, length, slice_get, get_or, nat_le, option_or, get_or_past, slice_get-get_or, slice_get_within, cases_lt, PlanModel, TaskModel, All, All-push, task_at, no_task}
 use Rattle.std.proofs.lemmas.List.{set_past}

@@ -18,7 +18,8 @@ use std::marker::Model;
 
 /// Judges the events of a kernel's log as they come.
 ///
-/// It stores the jobs that are released and have not ended, and a few numbers for each core, resource and task. It
+/// It stores the jobs that are released and have not ended, and a few numbers for each core,
+/// resource and task. It
 /// reports the first rule that an event violates, or the first thing that the log lacks.
 #[derive(Drop)]
 pub struct LogAuditor<'a> {
@@ -55,8 +56,10 @@ fn idle_core() -> CoreLog
 }
 
 impl<'a> LogAuditor<'a> {
-    /// An auditor before the first event. All memory that it ever needs is taken here: room for as many jobs as the
-    /// tolerances allow to be released and not ended, and for each core, resource and task. It is [`Memory`] only
+    /// An auditor before the first event. All memory that it ever needs is taken here: room for as
+    /// many jobs as the
+    /// tolerances allow to be released and not ended, and for each core, resource and task. It is
+    /// [`Memory`] only
     /// where that was refused.
     pub fn with_room(
         alloc: Global,
@@ -85,7 +88,8 @@ impl<'a> LogAuditor<'a> {
         })
     }
 
-    /// The next event: what the events so far show first, if they show anything. After that the answer stays the
+    /// The next event: what the events so far show first, if they show anything. After that the
+    /// answer stays the
     /// same. It takes no memory.
     pub fn feed(&mut self, event: Event) -> Result<(), Finding>
         ensures system { self.new.system ≡ self.old.system }
@@ -144,7 +148,8 @@ impl<'a> LogAuditor<'a> {
         }
     }
 
-    /// What the events so far show first, if they show anything. It changes nothing, so that events may be fed after
+    /// What the events so far show first, if they show anything. It changes nothing, so that events
+    /// may be fed after
     /// it.
     pub fn end(&self) -> Result<(), Finding>
         ensures { (events : List LogEvent) → HasFed self.now events → result ≡ answer_of (finding_in self.now.system self.now.tolerances events) }

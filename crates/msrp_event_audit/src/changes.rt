@@ -195,7 +195,8 @@ fn time_resource(
     }
 }
 
-// Since when the resource that the event is on, if it is on one, has been free while a job awaits it.
+// Since when the resource that the event is on, if it is on one, has been free while a job awaits
+// it.
 fn time_touched(system: &System, jobs: &[LiveJob], free: &mut Vec<Option<u64>>, event: Event)
     requires { All (IsKnown system.now) jobs.now }
     ensures { free.new.items ≡ free_timed system.now jobs.now (resource_touched event.action) event.time free.old.items }

@@ -107,7 +107,8 @@ fn comes_first(system: &System, head: LiveJob, running: Option<LiveJob>) -> bool
     }
 }
 
-// The head where its level is above the ceiling and it comes before who is started; else who is started.
+// The head where its level is above the ceiling and it comes before who is started; else who is
+// started.
 fn chosen(
     system: &System,
     above: u32,

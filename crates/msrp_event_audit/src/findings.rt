@@ -285,7 +285,8 @@ fn core_finding(
     continuity(state, event).or(time.or(action))
 }
 
-/// What the event shows after the others: the first rule that it violates, or the first thing that the log lacks.
+/// What the event shows after the others: the first rule that it violates, or the first thing that
+/// the log lacks.
 pub(crate) fn finding_of(
     system: &System,
     tolerances: Tolerances,

@@ -1,7 +1,9 @@
 //! The auditor of a kernel's log: event by event, in memory that doesn't grow with the log.
 //!
-//! A [`LogAuditor`] follows the jobs that are released and have not ended, and reports the first rule that an event
-//! violates, or the first thing that the log lacks. `msrp_events` has the definitions that it is proved by.
+//! A [`LogAuditor`] follows the jobs that are released and have not ended, and reports the first
+//! rule that an event
+//! violates, or the first thing that the log lacks. `msrp_events` has the definitions that it is
+//! proved by.
 #![tactic(auto)]
 
 mod auditor;

@@ -8,7 +8,8 @@ use crate::summary::{Summary, next};
 use crate::tasks::{TaskStatus, task_status};
 use msrp_plan::{CoreId, JobId, Plan, ResId, Row, TaskId};
 
-/// Whose track it is. Perfetto shows those of cores, of tasks and of resources as the threads of a process each.
+/// Whose track it is. Perfetto shows those of cores, of tasks and of resources as the threads of a
+/// process each.
 #[derive(Clone, Copy)]
 pub(crate) enum Track {
     Core(CoreId),

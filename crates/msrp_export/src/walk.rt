@@ -1,4 +1,5 @@
-//! One walk over all tracks for both formats: their names, what a tick changes, and the end of their
+//! One walk over all tracks for both formats: their names, what a tick changes, and the end of
+//! their
 //! slices.
 
 use crate::formats::Format;

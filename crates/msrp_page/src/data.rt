@@ -1,4 +1,5 @@
-//! The data of a page: a JSON object. Blocks and events are written in groups of one kind and lane, a flat list each, in which
+//! The data of a page: a JSON object. Blocks and events are written in groups of one kind and lane,
+//! a flat list each, in which
 //! a tick is told by its distance from the one before; `docs/EXPORTS.md` has the form.
 
 ghost use Rattle.std.specs.Prelude.{◌≡◌, ◌<◌};
@@ -89,7 +90,8 @@ impl Data {
         }
     }
 
-    // A byte of a string: quotes, backslashes and `<` are escaped, and all that isn't a printable ASCII character.
+    // A byte of a string: quotes, backslashes and `<` are escaped, and all that isn't a printable
+    // ASCII character.
     fn byte(&mut self, byte: u8) -> Added {
         if byte < 32 || byte > 126 || byte == b'"' || byte == b'\\' || byte == b'<' {
             self.text.push_str("\\u00")?;
@@ -200,7 +202,8 @@ impl Data {
         Ok(())
     }
 
-    /// The rows that don't stand a line after the one before, with their lines; line 0 is an unknown one.
+    /// The rows that don't stand a line after the one before, with their lines; line 0 is an
+    /// unknown one.
     pub(crate) fn lines(&mut self, lines: &[(u32, u64)]) -> Added {
         self.text.push_str(",\"lines\":[")?;
         let mut between = "";
@@ -248,7 +251,8 @@ impl Data {
         Ok(())
     }
 
-    // A tick, in the group of the one before if that is of the same kind and not later, and else in a new one.
+    // A tick, in the group of the one before if that is of the same kind and not later, and else in
+    // a new one.
     fn tick(&mut self, group: (u32, u32, bool), tick: u64, is_judged: bool) -> Added {
         if self.group != Some(group) || tick < self.last {
             let (what, lane, is_legal) = group;

@@ -1,7 +1,9 @@
-//! A trace of a plan as a page for a browser: one file that loads nothing, with the facts of the trace as data and the
+//! A trace of a plan as a page for a browser: one file that loads nothing, with the facts of the
+//! trace as data and the
 //! script that draws them.
 //!
-//! The facts are those of [`shapes_of`](msrp_picture::shapes_of) and of a [`Counter`](msrp_report::Counter), which are proved.
+//! The facts are those of [`shapes_of`](msrp_picture::shapes_of) and of a
+//! [`Counter`](msrp_report::Counter), which are proved.
 //! Their text, and what the script draws of them, is tested.
 #![tactic(auto)]
 

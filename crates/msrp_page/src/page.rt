@@ -10,7 +10,8 @@ use msrp_picture::{Window, shapes_of};
 use msrp_plan::{Memory, Plan, Row};
 use std::alloc::Global;
 
-/// What is known of a trace beside its rows: the reasons of the verdict, in words; the rows that don't stand a line after
+/// What is known of a trace beside its rows: the reasons of the verdict, in words; the rows that
+/// don't stand a line after
 /// the one before, with their lines, of which 0 is an unknown one; and the length of a tick.
 #[derive(Clone, Copy, Debug)]
 pub struct Told<'a> {

@@ -39,7 +39,8 @@ abbrev pub sections : TaskId → ℕ → List Row → List Block
 sections t end rows = flat_map (λ i. first_section t end (drop i rows)) (range_with_len 0 (length rows))
 
 -- ---- the ceilings of cores
--- the last of these rows with the current ceiling of its core after them, if none of them is refused
+-- the last of these rows with the current ceiling of its core after them, if none of them is
+-- refused
 abbrev pub ceiling_after : PlanModel → List Row → Row → Option (Row × ℕ)
 ceiling_after plan rows r = if is_none (fault_in plan rows) then Some (r, ceiling plan r.core.0 rows) else None
 

@@ -68,7 +68,8 @@ fn push_section(blocks: &mut Vec<Block>, task: TaskId, end: u64, rows: &[Row]) -
     }
 }
 
-/// Adds the critical sections of a task, where these are its rows and the rows of the trace end with a tick.
+/// Adds the critical sections of a task, where these are its rows and the rows of the trace end
+/// with a tick.
 pub(crate) fn push_sections(blocks: &mut Vec<Block>, task: TaskId, end: u64, rows: &[Row]) -> Added
     ensures { OnOk result (blocks.new.items ≡ blocks.old.items ++ sections task end rows.now) }
 {
@@ -78,7 +79,8 @@ pub(crate) fn push_sections(blocks: &mut Vec<Block>, task: TaskId, end: u64, row
     Ok(())
 }
 
-// Feeds a row, and adds it with the ceiling of its core after it, if none of the rows so far is refused.
+// Feeds a row, and adds it with the ceiling of its core after it, if none of the rows so far is
+// refused.
 fn push_ceiling(all: &mut Vec<(Row, u32)>, auditor: &mut Auditor<'_>, row: &Row) -> Added
     ensures plan { auditor.new.plan ≡ auditor.old.plan }
     ensures fed { (rows : List TraceRow) → HasFed auditor.old rows → HasFed auditor.new (rows ++ row.now ∷ []) }

@@ -109,7 +109,8 @@ impl<'a> Cores<'a> {
         self.machines[core.0 as usize].state()
     }
 
-    /// The row of the core's next turn, which a copy of its machine makes. It is [`Memory`] only where that was refused.
+    /// The row of the core's next turn, which a copy of its machine makes. It is [`Memory`] only
+    /// where that was refused.
     pub fn next_row(&self, alloc: Global, core: CoreId) -> Result<Row, Memory>
         requires core { core.0 < self.now.plan.cores }
         requires tick { (x : MachineModel) → slice_get self.now.machines core.0 ≡ Some x → x.tick < self.now.plan.ticks }

@@ -1,4 +1,5 @@
--- A system as a plan: its deadlines are in ns, the units of its tasks are locks and unlocks alone, and it has neither
+-- A system as a plan: its deadlines are in ns, the units of its tasks are locks and unlocks alone,
+-- and it has neither
 -- ticks nor release times, which no definition on logs looks at.
 use Rattle.std.specs.Prelude.{◌||◌, if◌then◌else◌, ◌≡◌, ◌⊎◌, IsOk}
 use Rattle.msrp_plan.specs.Common.{ℕ, List, Bool, true, nat_le, nat_lt, Option, Some, None, length, list_any, map, Result, Err, PlanModel, TaskModel, string_bytes, Global, String, Every}

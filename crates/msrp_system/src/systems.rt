@@ -16,7 +16,8 @@ use thiserror::Error;
 /// Why a system is refused.
 #[derive(Clone, Copy, Debug, Error, PartialEq, Eq)]
 pub enum SystemFault {
-    /// There are more cores, resources, tasks, or locks and unlocks of a task than a system may have.
+    /// There are more cores, resources, tasks, or locks and unlocks of a task than a system may
+    /// have.
     #[error("a limit of systems is passed")]
     Limit,
     /// The core of a task isn't below the number of cores.
@@ -38,7 +39,8 @@ impl From<Memory> for SystemFault {
     }
 }
 
-/// The tasks of a kernel with their cores, deadlines and locks, and tables of what the policy asks of them.
+/// The tasks of a kernel with their cores, deadlines and locks, and tables of what the policy asks
+/// of them.
 #[derive(Debug, Drop)]
 pub struct System {
     parts: Parts,
@@ -136,7 +138,8 @@ fn fault_of(cores: u32, resources: usize, tasks: &[Task]) -> Option<SystemFault>
 }
 
 impl System {
-    /// A system of these cores, resources and tasks, by number in their order. It is refused with the first cause in
+    /// A system of these cores, resources and tasks, by number in their order. It is refused with
+    /// the first cause in
     /// the order of [`SystemFault`], and else only where memory was refused.
     pub fn of(
         alloc: Global,
@@ -236,7 +239,8 @@ impl System {
         self.parts.holds_after(task, step, res)
     }
 
-    /// The preemption level of a task: 1 and the number of distinct longer relative deadlines (Baker 1991).
+    /// The preemption level of a task: 1 and the number of distinct longer relative deadlines
+    /// (Baker 1991).
     pub fn level(&self, task: TaskId) -> u32
         requires { task.0 < length self.now.tasks }
         ensures { result ≡ level self.now task.0 }
@@ -273,7 +277,8 @@ impl System {
         self.ceilings[res.0 as usize]
     }
 
-    // Whether a job of the task holds a local resource, or a global one, after so many of its locks and unlocks.
+    // Whether a job of the task holds a local resource, or a global one, after so many of its locks
+    // and unlocks.
     fn holds_local(&self, task: TaskId, step: u32, res: ResId) -> bool
         requires { task.0 < length self.now.tasks }
         ensures { result ≡ (not (is_global self.now res.0) && holds_after (take step (task_at self.now task.0).units) res.0) }
@@ -313,7 +318,8 @@ impl System {
         highest
     }
 
-    /// The ceiling of a core while a job of this task is the only one that holds or awaits something there: the job
+    /// The ceiling of a core while a job of this task is the only one that holds or awaits
+    /// something there: the job
     /// has done so many locks and unlocks, and waits for a global resource or doesn't.
     pub fn ceiling_after(&self, task: TaskId, step: u32, waits: bool) -> u32
         requires { task.0 < length self.now.tasks }

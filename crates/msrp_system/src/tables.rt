@@ -1,4 +1,5 @@
-//! The tables of a system: levels of tasks, highest levels of cores, ceilings of resources, and which are global.
+//! The tables of a system: levels of tasks, highest levels of cores, ceilings of resources, and
+//! which are global.
 ghost use Rattle.std.specs.Prelude.{◌≡◌, ◌≤◌, ◌<◌, ◌+◌, ◌==◌, ◌&&◌};
 ghost use Rattle.msrp_plan.specs.Common.{nat_lt, count_by, length, map, range_with_len, vec_len, IfOk, TaskModel, level_of, uses, top, local_ceiling, is_global};
 ghost use Rattle.msrp_system.specs.Systems.{most_tasks};

@@ -79,7 +79,8 @@ abbrev pub explains_plan : View → Option Text → Bool
 explains_plan Why None = true
 explains_plan _ _ = false
 
--- the command shows that, with the length of a tick if it is given; it is a usage fault where a path is missing, or both are standard input
+-- the command shows that, with the length of a tick if it is given; it is a usage fault where a
+-- path is missing, or both are standard input
 abbrev pub IsShown : View → List Row → Result Cmd CliFault → Type 0
 IsShown view rows (Ok (Show v plan trace tick)) =
     (v ≡ view) × (explains_plan view (first_of (codes "TRACE") rows) ≡ false) × (paths_of rows ≡ Some (plan.now, trace.now)) × (option_map (λ word. word.now) tick ≡ first_of (codes "tick") rows)

@@ -58,7 +58,8 @@ abbrev pub found_within : PlanModel → Told → Option Window → Result (Resul
 found_within plan told (Some window) = verdict_on plan (rows_read told)
 found_within plan told None = Err cli.Usage
 
--- what is found in a text that stands for a plan, or in one that is refused, and in the records of a trace's text
+-- what is found in a text that stands for a plan, or in one that is refused, and in the records of
+-- a trace's text
 abbrev pub picture_found : Result PlanModel TextError → List (List (List ℕ)) → Asked → Result (Result ⊤ Fault) CliFault
 picture_found (Ok plan) records asked = found_within plan (rows_of plan records) (window_of plan asked)
 picture_found (Err error) records asked = Err (fault_of error)
@@ -72,7 +73,8 @@ abbrev pub ViewAnswers : {W : Type 0} → Result PlanModel TextError → List (L
 ViewAnswers plan records asked old new result = Tells (picture_found plan records asked) old new result
 
 -- ---- pages
--- what is found in a text that stands for a plan, or in one that is refused, and in the records of a trace's text
+-- what is found in a text that stands for a plan, or in one that is refused, and in the records of
+-- a trace's text
 abbrev pub page_found : Result PlanModel TextError → List (List (List ℕ)) → Result (Result ⊤ Fault) CliFault
 page_found (Ok plan) records = verdict_on plan (rows_read (rows_of plan records))
 page_found (Err error) records = Err (fault_of error)

@@ -107,11 +107,14 @@ fn export_plan<T: Read, W: Write>(
     answer_to(Ok(found))
 }
 
-/// Reads a plan and a trace of it, whoever made it, and writes the trace in a format: all of a legal
-/// run, and else the rows before the first that violates a rule, and the fault. The answer is the exit
+/// Reads a plan and a trace of it, whoever made it, and writes the trace in a format: all of a
+/// legal
+/// run, and else the rows before the first that violates a rule, and the fault. The answer is the
+/// exit
 /// status of an audit, 0 or 1.
 ///
-/// The rows are judged and written as they come. So where a record of the trace is refused, or a read
+/// The rows are judged and written as they come. So where a record of the trace is refused, or a
+/// read
 /// fails, the rows before it may have been written. Of a refused plan nothing is.
 #[tactic(auto, using(crate::proofs::Answering::writes))]
 pub fn export_text<P: Read, T: Read, W: Write>(

@@ -128,10 +128,13 @@ fn page_of_texts<P: Read, T: Read>(
     settled(made, trace)
 }
 
-/// Reads a plan and a trace of it, whoever made it, and writes a page for a browser: the verdict with its reasons, the
-/// whole trace as a timeline, and the report of its legal rows. The answer is the exit status of an audit.
+/// Reads a plan and a trace of it, whoever made it, and writes a page for a browser: the verdict
+/// with its reasons, the
+/// whole trace as a timeline, and the report of its legal rows. The answer is the exit status of an
+/// audit.
 ///
-/// All memory is taken before anything is written: so whatever the fault, but a write fault, nothing was written. A trace of
+/// All memory is taken before anything is written: so whatever the fault, but a write fault,
+/// nothing was written. A trace of
 /// which a record is refused has no page. A refused plan is told whatever the trace.
 #[tactic(auto, using(crate::proofs::Answering::writes))]
 pub fn page_text<P: Read, T: Read, W: Write>(
@@ -141,7 +144,8 @@ pub fn page_text<P: Read, T: Read, W: Write>(
     out: &mut Sink<W>,
     length: Option<TickLength>,
 ) -> Result<u8, CliFault>
-    // Where the readers tell their bytes, and no read failed and no memory was refused, the answer is that to
+    // Where the readers tell their bytes, and no read failed and no memory was refused, the answer
+    // is that to
     // the plan and the rows that they stand for.
     ensures answer { OfTexts P.remaining T.remaining plan.old trace.old result (λ plan records. PageAnswers plan records out.old out.new result) }
 

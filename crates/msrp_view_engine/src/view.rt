@@ -79,12 +79,14 @@ pub fn picture_of_texts<P: Read, T: Read>(
     settled(made, trace)
 }
 
-/// Reads a plan and a trace of it, whoever made it, and writes a picture of the ticks that are asked
+/// Reads a plan and a trace of it, whoever made it, and writes a picture of the ticks that are
+/// asked
 /// for. The answer is the exit status of an audit: 0 for a legal run, and 1 else; then the picture
 /// shows the rows before the first that violates a rule, and that one, and in SVG also what follows
 /// it. It is [`CliFault::Usage`] where the plan doesn't have such ticks.
 ///
-/// All memory is taken before anything is written. A trace of which a record is refused isn't drawn.
+/// All memory is taken before anything is written. A trace of which a record is refused isn't
+/// drawn.
 #[tactic(auto, using(crate::proofs::Answering::writes))]
 pub fn view_text<P: Read, T: Read, W: Write>(
     alloc: Global,

@@ -235,7 +235,8 @@ fn explain_rows<T: Read>(
     }
 }
 
-/// The words on a trace of an accepted plan. Whatever ends the reading early may be told as a failed read.
+/// The words on a trace of an accepted plan. Whatever ends the reading early may be told as a
+/// failed read.
 pub(crate) fn explain_all<T: Read>(
     alloc: Global,
     plan: &Plan,
@@ -298,12 +299,15 @@ pub fn why_of_texts<P: Read, T: Read>(
 }
 
 /// Reads a plan and a trace of it, whoever made it, and writes the verdict as
-/// [`audit_text`](crate::audit_text) does, and behind it what makes it so: the first row that violates
+/// [`audit_text`](crate::audit_text) does, and behind it what makes it so: the first row that
+/// violates
 /// a rule, the rule, the row expected in its place, and the facts that the rule needs; of a legal
-/// trace, what its run exercised. The answer is the exit status, 0 or 1. Of a refused record it writes
+/// trace, what its run exercised. The answer is the exit status, 0 or 1. Of a refused record it
+/// writes
 /// what is wrong and the record as it stands; the answer is the refusal.
 ///
-/// The rows are judged as they come, and one is kept at a time. All memory is taken before anything is
+/// The rows are judged as they come, and one is kept at a time. All memory is taken before anything
+/// is
 /// written. Of a refused plan nothing is.
 #[tactic(auto, using(crate::proofs::Answering::writes))]
 pub fn why_text<P: Read, T: Read, W: Write>(

@@ -106,7 +106,8 @@ shifted n es e true false joins = ap (λ m. drop m (es ++ e ∷ [])) (omega arit
 shifted n es e false true joins = ap (drop (n + 1)) (append-nil es) ∙ sym (drop-drop 1 n es)
 shifted n es e false false joins = ap (drop (n + 0)) (append-nil es) ∙ ap (λ m. drop m es) (omega arith)
 
--- one row more, by whether it requests or releases the resource: a request joins the end, a release takes the front away
+-- one row more, by whether it requests or releases the resource: a request joins the end, a release
+-- takes the front away
 queue_push : (g : ℕ) (rows : List Row) (r : Row) (b c : Bool) → requests g (entry (length rows + 1) r) ≡ b → is_release_of g r ≡ c → (b ≡ true → (c ≡ false) × IsFed g rows)
     → queue_rows g (rows ++ r ∷ []) ≡ cond b (queue_rows g rows ++ entry (length rows + 1) r ∷ []) (cond c (drop 1 (queue_rows g rows)) (queue_rows g rows))
 queue_push g rows r b c request release fed =

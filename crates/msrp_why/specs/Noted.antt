@@ -130,7 +130,8 @@ abbrev pub nests : PlanModel → List Row → Row → Bool
 nests plan pre r = is_opening r.kind && option_map_or (is_inside plan pre) r.job false
 
 -- the turns in which a job finishes, after its deadline (the tick begins at it or later), or at it
--- (the tick ends at it); in which the head of the core may not start, at the ceiling; in which a job
+-- (the tick ends at it); in which the head of the core may not start, at the ceiling; in which a
+-- job
 -- preempts another; and in which it opens a critical section inside another
 pub record AreTurnCounts (plan : PlanModel) (rows : List Row) (n : TurnCounts) : Type 0 where
   pub finished : n.finished ≡ count_after (finishes plan) [] rows
