@@ -29,11 +29,12 @@ struct answer {
 };
 
 /* One of the calls, by its number. */
-#define CALLS 17
+#define CALLS 19
 static void call(int which, struct answer *to) {
     uint8_t *text = to->text;
     size_t *needed = &to->needed;
     struct msrp_found *found = &to->found;
+    uint32_t number = 0;
     memset(to, 0x55, sizeof *to);
     to->needed = 0;
     switch (which) {
@@ -53,11 +54,15 @@ static void call(int which, struct answer *to) {
     case 13: to->status = msrp_why(BYTES(PLAN), BYTES(FAULTY), text, ROOM, needed, found); break;
     case 14: to->status = msrp_why_plan(BYTES(PLAN), text, ROOM, needed, found); break;
     case 15: to->status = msrp_why_plan(BYTES("msrp,1\ncores,9\n"), text, ROOM, needed, found); break;
+    case 16: to->status = msrp_task_number(BYTES(PLAN), BYTES("b"), &number, found); break;
+    case 17: to->status = msrp_resource_number(BYTES(PLAN), BYTES("b"), &number, found); break;
     default: to->status = msrp_audit(NULL, 0, BYTES(GOOD), found); break;
     }
+    if (number)
+        to->needed = number;
 }
 
-static const uint32_t DUE[CALLS] = {0, 1, 0, 1, 0, 0, 0, 0, 1, 0, 1, 1, 0, 1, 0, 2, 2};
+static const uint32_t DUE[CALLS] = {0, 1, 0, 1, 0, 0, 0, 0, 1, 0, 1, 1, 0, 1, 0, 2, 0, 3, 2};
 
 static void fail(const char *what, int which) {
     printf("%s: call %d\n", what, which);

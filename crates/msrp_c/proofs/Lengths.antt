@@ -11,6 +11,7 @@ use Rattle.msrp_faults.specs.declared.faults.CliFault.TheVariants.{Plan, Trace, 
 use Rattle.msrp_engine.specs.declared.made.Made.{Made}
 use Rattle.msrp_engine.specs.Answered.{OrUnread}
 use Rattle.msrp_c.specs.Answers.{Answers, Gives, Hands, HandsOver, Judges, Tells, status_told, text_in, unfailed}
+use Rattle.msrp_c.specs.Names.{AnswersNumber, TellsNumber, found_with}
 use Rattle.msrp_c.specs.Whys.{AnswersWords, HandsWords, refusal_in, words_in}
 use Rattle.msrp_view_engine.specs.Answers.{IsOnPlan}
 use Rattle.msrp_view_engine.specs.declared.words.Words.{Words}
@@ -107,3 +108,24 @@ long-words long AreMade old new needed found status is h = long-given refusal_in
 pub short-words : (long : Bool) (AreMade : Result Words CliFault → Type 0) (words : Result Words CliFault) (old new : List ℕ) (needed : ℕ) (found : MsrpFound) (status : ℕ)
     → long ≡ false → IfOk words (λ made. IsOnPlan made.found) → AreMade words → HandsWords (unfailed words) old new needed found status → AnswersWords long AreMade old new needed found status
 short-words long AreMade words old new needed found status is plan good h = short-given refusal_in words_in long AreMade words old new needed found status (words-unfailed words plan) is good h
+
+-- ---- numbers of names
+with-unfailed : (what : Result ℕ CliFault) → found_with (unfailed what) ≡ unfailed (found_with what)
+with-unfailed (Ok number) = refl
+with-unfailed (Err fault) = refl
+
+pub long-numbered : (long : Bool) (expected : Result ℕ CliFault) (old new : ℕ) (found : MsrpFound) (status : ℕ) → long ≡ true → TellsNumber (Err Read) old new found status → AnswersNumber long expected old new found status
+long-numbered long expected old new found status is h = record {
+  what = Err Read;
+  is = λ no. absurd (true≢false (sym is ∙ no));
+  tells = rw is h;
+  too_long = ((λ _. is), (λ _. h.tells.status_is));
+}
+
+pub short-numbered : (long : Bool) (expected what : Result ℕ CliFault) (old new : ℕ) (found : MsrpFound) (status : ℕ) → long ≡ false → OrUnread what (what ≡ expected) → TellsNumber (unfailed what) old new found status → AnswersNumber long expected old new found status
+short-numbered long expected what old new found status is good h = record {
+  what = what;
+  is = λ _. good;
+  tells = rw is h;
+  too_long = ((λ e. absurd (not-five (found_with what) (sym (h.tells.status_is ∙ ap status_told (with-unfailed what)) ∙ e))), (λ t. absurd (true≢false (sym t ∙ is))));
+}

@@ -16,6 +16,7 @@ mod handle;
 mod held;
 mod loading;
 mod loose;
+mod names;
 mod numbers;
 mod open_run;
 mod opening;
@@ -34,6 +35,7 @@ pub use auditor::{
 pub use audits::{msrp_audit, msrp_audit_rows, msrp_report};
 pub use cores::{msrp_core_arrive, msrp_core_free, msrp_core_turn};
 pub use handle::MsrpHandle;
+pub use names::{msrp_resource_number, msrp_task_number};
 pub use pictures::msrp_view;
 pub use plans::{msrp_check, msrp_plan_text, msrp_sim};
 pub use runs::{msrp_run_core, msrp_run_free, msrp_run_join, msrp_run_new, msrp_run_text};
