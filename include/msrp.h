@@ -128,6 +128,10 @@ uint32_t msrp_why(const uint8_t *plan, size_t plan_len, const uint8_t *trace, si
  * MSRP_REFUSED. */
 uint32_t msrp_why_plan(const uint8_t *plan, size_t plan_len, uint8_t *text, size_t text_len, size_t *needed, struct msrp_found *found);
 
+/* The verdict on rows that are numbers, as msrp_audit_rows gives it with so_far, and the words of
+ * msrp_auditor_why on it. While nothing is wrong there is no text. */
+uint32_t msrp_why_rows(const uint8_t *plan, size_t plan_len, const struct msrp_row *rows, size_t rows_len, uint8_t *text, size_t text_len, size_t *needed, struct msrp_found *found);
+
 /* The number of the plan's task or resource with this name, as rows have it. If the plan has none of
  * this name the call returns MSRP_USAGE. number is written only with MSRP_GOOD. */
 uint32_t msrp_task_number(const uint8_t *plan, size_t plan_len, const uint8_t *name, size_t name_len, uint32_t *number, struct msrp_found *found);

@@ -29,7 +29,7 @@ struct answer {
 };
 
 /* One of the calls, by its number. */
-#define CALLS 19
+#define CALLS 20
 static void call(int which, struct answer *to) {
     uint8_t *text = to->text;
     size_t *needed = &to->needed;
@@ -56,13 +56,14 @@ static void call(int which, struct answer *to) {
     case 15: to->status = msrp_why_plan(BYTES("msrp,1\ncores,9\n"), text, ROOM, needed, found); break;
     case 16: to->status = msrp_task_number(BYTES(PLAN), BYTES("b"), &number, found); break;
     case 17: to->status = msrp_resource_number(BYTES(PLAN), BYTES("b"), &number, found); break;
+    case 18: to->status = msrp_why_rows(BYTES(PLAN), ROWS, 4, text, ROOM, needed, found); break;
     default: to->status = msrp_audit(NULL, 0, BYTES(GOOD), found); break;
     }
     if (number)
         to->needed = number;
 }
 
-static const uint32_t DUE[CALLS] = {0, 1, 0, 1, 0, 0, 0, 0, 1, 0, 1, 1, 0, 1, 0, 2, 0, 3, 2};
+static const uint32_t DUE[CALLS] = {0, 1, 0, 1, 0, 0, 0, 0, 1, 0, 1, 1, 0, 1, 0, 2, 0, 3, 1, 2};
 
 static void fail(const char *what, int which) {
     printf("%s: call %d\n", what, which);

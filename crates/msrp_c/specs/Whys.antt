@@ -1,15 +1,19 @@
 -- Words on a trace, and on a plan.
 use Rattle.std.specs.Prelude.{◌≡◌, ◌++◌}
-use Rattle.msrp_plan.specs.Common.{ℕ, Bool, List, [], Ok, Err, IsOkAnd, ⊤, Result, verdict_text}
+use Rattle.msrp_plan.specs.Common.{ℕ, Bool, List, [], Ok, Err, IsOkAnd, ⊤, Result, PlanModel, verdict_text}
 use Rattle.msrp_plan.specs.declared.faults.Fault.{Fault}
+use Rattle.msrp_faults.specs.Outcomes.{fault_of}
 use Rattle.msrp_faults.specs.declared.faults.CliFault.{CliFault}
 use Rattle.msrp_faults.specs.declared.faults.CliFault.TheVariants.{Memory}
 use Rattle.msrp_text.specs.Reading.{csv_records, plan_of}
+use Rattle.msrp_text.specs.declared.reading.TextError.{TextError}
 use Rattle.msrp_view_engine.specs.Answers.{plan_found}
 use Rattle.msrp_view_engine.specs.declared.words.Words.{Words}
 use Rattle.msrp_engine.specs.Answered.{OrUnread}
 use Rattle.msrp_c.specs.Answers.{Gives, HandsOver}
+use Rattle.msrp_c.specs.Feeding.{found_so_far}
 use Rattle.msrp_c.specs.declared.answers.MsrpFound.{MsrpFound}
+use Rattle.msrp_c.specs.declared.turns.MsrpRow.{MsrpRow}
 
 -- what is found in a plan that words were made on, or the fault in place of both
 abbrev pub refusal_in : Result Words CliFault → Result (Result ⊤ Fault) CliFault
@@ -43,6 +47,11 @@ AreReasonsFor (Err fault) text = ⊤
 abbrev pub AreReasons : Result (Result ⊤ Fault) CliFault → Result Words CliFault → Type 0
 AreReasons found (Ok words) = (words.found ≡ found) × AreReasonsFor found words.text.items
 AreReasons found (Err fault) = fault ≡ Memory
+
+-- the reasons for what is found in these turns of a plan as rows so far; a refused plan has none
+abbrev pub AreReasonsOf : Result PlanModel TextError → List MsrpRow → Result Words CliFault → Type 0
+AreReasonsOf (Ok plan) turns words = AreReasons (found_so_far plan turns) words
+AreReasonsOf (Err error) turns words = words ≡ Err (fault_of error)
 
 -- such words are handed over
 pub record TellsReasons (what : Result (Result ⊤ Fault) CliFault) (old new : List ℕ) (needed : ℕ) (found : MsrpFound) (status : ℕ) : Type 0 where

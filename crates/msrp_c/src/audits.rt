@@ -10,8 +10,9 @@ ghost use Rattle.msrp_c.specs.Answers.{Answers, Judges, is_long};
 ghost use Rattle.msrp_c.specs.Turns.{finding_of_turns};
 
 use crate::answers::{MsrpFound, are_long, hand_over, is_long, tell, unfailed};
-use crate::turns::{MsrpRow, judge_turns};
-use msrp_audit::{Auditor, Fault};
+use crate::held::{FedAuditor, Loaded};
+use crate::turns::MsrpRow;
+use msrp_audit::Fault;
 use msrp_engine::{CliFault, Made, judge_texts, report_of_texts};
 use msrp_levels::Levels;
 use msrp_plan::bytes::Source;
@@ -51,8 +52,12 @@ fn judged(
     let mut source = Source::new(plan);
     let plan = read_plan(alloc, &mut source)?;
     let levels = Levels::of(alloc, &plan)?;
-    let mut auditor = Auditor::with_room(alloc, &plan, &levels)?;
-    judge_turns(&plan, &mut auditor, rows, so_far)
+    let loaded = Loaded {
+        plan: &plan,
+        levels: &levels,
+    };
+    let fed = FedAuditor::of_rows(alloc, loaded, rows)?;
+    if so_far { fed.verdict } else { fed.end() }
 }
 
 /// The verdict on rows given as numbers, as [`msrp_audit`] gives it on their text, except that rows

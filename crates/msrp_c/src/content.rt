@@ -9,7 +9,7 @@ use msrp_hosted::{HostedCore, SettledRun};
 #[cycle(held)]
 pub enum Content {
     /// An auditor that is fed row by row.
-    Auditor(FedAuditor),
+    Auditor(FedAuditor<'static>),
     /// A run whose cores are handed out and joined.
     Open(OpenRun),
     /// A run whose cores were all joined.

@@ -96,9 +96,9 @@ fn no_words(alloc: Global, found: Result<Result<(), Fault>, CliFault>) -> Result
     Ok(Words { text, found })
 }
 
-impl FedAuditor {
+impl<'a> FedAuditor<'a> {
     /// An auditor of a plan, before the first row.
-    pub(crate) fn new(alloc: Global, loaded: Loaded) -> Result<FedAuditor, Memory>
+    pub(crate) fn new(alloc: Global, loaded: Loaded<'a>) -> Result<FedAuditor<'a>, Memory>
         ensures { IfOk result (IsFed loaded.plan.now []) }
     {
         let auditor = Auditor::with_room(alloc, loaded.plan, loaded.levels)?;
@@ -109,6 +109,21 @@ impl FedAuditor {
             verdict: Ok(Ok(())),
             broken: None,
         })
+    }
+
+    /// An auditor of a plan that was fed these rows.
+    pub(crate) fn of_rows(
+        alloc: Global,
+        loaded: Loaded<'a>,
+        turns: &[MsrpRow],
+    ) -> Result<FedAuditor<'a>, Memory>
+        ensures { IfOk result (IsFed loaded.plan.now turns.now) }
+    {
+        let mut fed = FedAuditor::new(alloc, loaded)?;
+        for turn in turns {
+            let _so_far = fed.feed(turn);
+        }
+        Ok(fed)
     }
 
     /// The next row: what is found in the rows so far. It takes no memory.

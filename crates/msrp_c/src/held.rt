@@ -6,11 +6,11 @@ use msrp_engine::{Broken, CliFault};
 use msrp_levels::Levels;
 use msrp_plan::{Plan, Row};
 
-/// A plan and its levels, which stay in memory for good.
+/// A plan and its levels. For a handle they stay in memory for good.
 #[derive(Clone, Copy)]
-pub struct Loaded {
-    pub(crate) plan: &'static Plan,
-    pub(crate) levels: &'static Levels<'static>,
+pub struct Loaded<'a> {
+    pub(crate) plan: &'a Plan,
+    pub(crate) levels: &'a Levels<'a>,
     ghost same: { levels.now ≡ plan.now },
 }
 
@@ -23,9 +23,9 @@ pub struct BrokenRow {
 
 /// An auditor between two calls, and the verdict on the rows so far.
 #[derive(Drop)]
-pub struct FedAuditor {
-    pub(crate) loaded: Loaded,
-    pub(crate) auditor: Auditor<'static>,
+pub struct FedAuditor<'a> {
+    pub(crate) loaded: Loaded<'a>,
+    pub(crate) auditor: Auditor<'a>,
     // How many rows were judged, up to the first that is refused or has a fault.
     pub(crate) judged: u32,
     pub(crate) verdict: Result<Result<(), Fault>, CliFault>,

@@ -40,7 +40,7 @@ pub use pictures::msrp_view;
 pub use plans::{msrp_check, msrp_plan_text, msrp_sim};
 pub use runs::{msrp_run_core, msrp_run_free, msrp_run_join, msrp_run_new, msrp_run_text};
 pub use turns::MsrpRow;
-pub use whys::{msrp_why, msrp_why_plan};
+pub use whys::{msrp_why, msrp_why_plan, msrp_why_rows};
 
 // The version of the calls, also in the header.
 const VERSION: u32 = 1;

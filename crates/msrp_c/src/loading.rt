@@ -12,7 +12,7 @@ use msrp_text::read_plan;
 use std::alloc::Global;
 
 /// The plan of a text, with its levels. They are never freed, so that handles can borrow them.
-pub(crate) fn load(alloc: Global, text: &[u8]) -> Result<Loaded, CliFault>
+pub(crate) fn load(alloc: Global, text: &[u8]) -> Result<Loaded<'static>, CliFault>
     ensures { OrUnread result (IsLoaded (plan_of (csv_records text.now)) result) }
 {
     let mut source = Source::new(text);

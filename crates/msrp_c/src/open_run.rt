@@ -35,7 +35,7 @@ fn spare_for(alloc: Global, cores: u32) -> Result<Vec<Box<Content>>, Memory> {
 
 impl OpenRun {
     /// A run of a plan before its first core is handed out, with all the memory of its turns.
-    pub(crate) fn new(alloc: Global, loaded: Loaded) -> Result<OpenRun, Memory>
+    pub(crate) fn new(alloc: Global, loaded: Loaded<'static>) -> Result<OpenRun, Memory>
         ensures { IfOk result (λ made. IsNewRun loaded.plan.now made.run) }
     {
         let run = HostedRun::new(alloc, loaded.plan, loaded.levels)?;

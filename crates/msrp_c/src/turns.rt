@@ -1,13 +1,10 @@
-//! Rows as numbers, for C, and the verdict on them.
+//! Rows as numbers, for C.
 ghost use Rattle.std.specs.Prelude.{◌≡◌};
-ghost use Rattle.msrp_plan.specs.Common.{[], map, option_map, has_shape, may_carry};
-ghost use Rattle.msrp_audit.specs.Audits.{HasFed};
-ghost use Rattle.msrp_c.specs.Turns.{finding_in, job_numbered, kind_numbered, numbered, row_of, shaped_row, told_in};
+ghost use Rattle.msrp_plan.specs.Common.{option_map, has_shape, may_carry};
+ghost use Rattle.msrp_c.specs.Turns.{job_numbered, kind_numbered, numbered, row_of, shaped_row};
 
-use msrp_audit::{Auditor, Fault};
-use msrp_engine::CliFault;
 use msrp_plan::{CoreId, JobId, Kind, Plan, ResId, Row, TaskId};
-use msrp_trace::{TraceError, TraceFault, is_named};
+use msrp_trace::{TraceFault, is_named};
 
 /// A row as numbers; 4294967295 is used for a missing task, job, resource or ahead.
 #[repr(C)]
@@ -128,36 +125,5 @@ pub(crate) fn row_of(plan: &Plan, turn: &MsrpRow) -> Result<Row, TraceFault>
         Ok(row)
     } else {
         Err(TraceFault::Name)
-    }
-}
-
-/// The verdict on rows, judged one by one. If they are only rows so far, missing ones are no fault.
-pub(crate) fn judge_turns(
-    plan: &Plan,
-    auditor: &mut Auditor<'_>,
-    turns: &[MsrpRow],
-    so_far: bool,
-) -> Result<Result<(), Fault>, CliFault>
-    requires plan { auditor.old.plan ≡ plan.now }
-    requires fed { HasFed auditor.old [] }
-    ensures { result ≡ finding_in so_far plan.now (told_in (map (row_of plan.now) turns.now)) }
-{
-    // This read proves that the plan is an accepted one, which has few rows.
-    let _accepted = plan.tasks();
-    let mut number = 0u32;
-    for turn in turns {
-        number += 1;
-        let row = match row_of(plan, turn) {
-            Ok(row) => row,
-            Err(fault) => return Err(CliFault::from(TraceError::At { fault, number })),
-        };
-        if let Err(fault) = auditor.feed(row) {
-            return Ok(Err(fault));
-        }
-    }
-    if so_far {
-        Ok(Ok(()))
-    } else {
-        Ok(auditor.end())
     }
 }

@@ -6,11 +6,15 @@ ghost use Rattle.msrp_view_engine.specs.Answers.{IsOnPlan};
 ghost use Rattle.msrp_view_engine.specs.Whys.{IsWhyOf};
 ghost use Rattle.msrp_engine.specs.Answered.{OrUnread};
 ghost use Rattle.msrp_c.specs.Answers.{Answers, is_long};
-ghost use Rattle.msrp_c.specs.Whys.{AnswersWords, AreWords, HandsWords};
+ghost use Rattle.msrp_c.specs.Whys.{AnswersWords, AreReasonsOf, AreWords, HandsWords};
 
 use crate::answers::{MsrpFound, are_long, hand_over, hand_text, is_long, unfailed};
+use crate::held::{FedAuditor, Loaded};
+use crate::turns::MsrpRow;
 use msrp_engine::{CliFault, Made};
+use msrp_levels::Levels;
 use msrp_plan::bytes::Source;
+use msrp_text::read_plan;
 use msrp_view_engine::{Words, why_of_plan, why_of_texts};
 use std::alloc::Global;
 
@@ -81,5 +85,39 @@ pub extern "C" fn msrp_why_plan(
         return hand_words(Err(CliFault::Read), text, needed, found);
     }
     let words = advised(alloc, plan);
+    hand_words(unfailed(words), text, needed, found)
+}
+
+// The words on rows of a text's plan.
+fn explained_rows(alloc: Global, plan: &[u8], rows: &[MsrpRow]) -> Result<Words, CliFault>
+    ensures { OrUnread result (AreReasonsOf (plan_of (csv_records plan.now)) rows.now result) }
+{
+    let mut source = Source::new(plan);
+    let plan = read_plan(alloc, &mut source)?;
+    let levels = Levels::of(alloc, &plan)?;
+    let loaded = Loaded {
+        plan: &plan,
+        levels: &levels,
+    };
+    FedAuditor::of_rows(alloc, loaded, rows)?.why(alloc)
+}
+
+/// The verdict on rows so far, given as numbers, with the words that an auditor has on them:
+/// [`msrp_auditor_why`](crate::msrp_auditor_why). While nothing is wrong there are no words.
+#[unsafe(no_mangle)]
+pub extern "C" fn msrp_why_rows(
+    alloc: Global,
+    plan: &[u8],
+    rows: &[MsrpRow],
+    text: &mut [u8],
+    needed: &mut usize,
+    found: &mut MsrpFound,
+) -> u32
+    ensures { AnswersWords (is_long plan.now) (λ words. OrUnread words (AreReasonsOf (plan_of (csv_records plan.now)) rows.now words)) text.old text.new needed.new found.new result }
+{
+    if is_long(plan) {
+        return hand_words(Err(CliFault::Read), text, needed, found);
+    }
+    let words = explained_rows(alloc, plan, rows);
     hand_words(unfailed(words), text, needed, found)
 }
