@@ -46,6 +46,7 @@ pub extern "C" fn msrp_core_turn(
     ensures ended { IfSome (core_in core.old.value) (λ old. result ≡ 8 → core_in core.new.value ≡ Some (record old { step = Step.Ended })) }
     ensures in_turn { IfSome (core_in core.old.value) (λ old. (result ≡ 3) ↔ (old.step ≡ Step.InTurn)) }
     ensures misuse { core_in core.old.value ≡ None → result ≡ 3 }
+    ensures status { (result ≡ 0) ⊎ (result ≡ 3) ⊎ (result ≡ 7) ⊎ (result ≡ 8) }
     ensures same { (result ≡ 3) ⊎ (result ≡ 7) → core.new.value ≡ core.old.value }
     ensures kept { result ≢ 0 → (row.new ≡ row.old) × (place.new ≡ place.old) }
 {
