@@ -441,9 +441,9 @@ function draw() {
   if (!performance.getEntriesByName('shown').length) performance.mark('shown');
 }
 
-// The marks of the axis, in ticks: at round times, 90 pixels or more apart.
+// The marks of the axis, in ticks: at round times, and not too close to one another.
 function axisMarks() {
-  const least = Math.max(1, 90 / scale()) * tickLength;
+  const least = Math.max(1, Math.min(90, state.width / 4) / scale()) * tickLength;
   const power = 10 ** Math.floor(Math.log10(least));
   const step = [1, 2, 5, 10].map((times) => times * power).find((time) => time >= least) / tickLength;
   const first = Math.ceil(view.from / step);
@@ -457,11 +457,13 @@ function drawAxis() {
   const marks = axisMarks();
   for (const tick of marks) context.fillRect(Math.round(xOf(tick)), AXIS - 6, 1, state.height);
   context.fillStyle = palette.text;
+  let free = 0;
   for (const tick of marks) {
-    const [text, x] = [timeText(tick), xOf(tick) + 3];
-    const wide = context.measureText(text).width;
-    const left = Math.min(x, state.width - wide - 1);
-    if (x - left < 87 - wide && (left > flag + 24 || left + wide < flag)) context.fillText(text, left, 15);
+    const wide = context.measureText(timeText(tick)).width;
+    const left = Math.min(xOf(tick) + 3, state.width - wide - 1);
+    if (left < free || (left < flag + 24 && left + wide > flag)) continue;
+    context.fillText(timeText(tick), left, 15);
+    free = left + wide + 6;
   }
   if (!facts.fault) return;
   context.fillStyle = palette.late;
