@@ -278,7 +278,6 @@ function blockAt({ what, numbers }, tick) {
 }
 
 function isInSight(lane) {
-  if (lane.what !== 'task' && lane.what !== 'queue') return true;
   const next = lane.jobs[firstJob(lane.jobs)];
   if (next && next.release <= view.to) return true;
   return lane.layers.some((track) => {
