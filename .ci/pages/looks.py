@@ -182,12 +182,12 @@ def screens(browser, path):
 
 
 PAPER = """(() => {
-  const [box, canvas, body] = ['lanes', 'canvas'].map((name) => document.getElementById(name)).concat(document.body);
+  const [box, table, canvas, body] = ['lanes', 'table', 'canvas'].map((name) => document.getElementById(name)).concat(document.body);
   const style = getComputedStyle(body), ground = [...canvas.getContext('2d').getImageData(canvas.width - 2, 2, 1, 1).data];
   const sides = ['verdict', 'why', 'lanes', 'legend', 'table', 'report'].map((name) => document.getElementById(name).getBoundingClientRect());
   return {
     colours: [style.color, style.backgroundColor, ground.join()], rows: document.querySelectorAll('#table tr').length, open: document.getElementById('reasons').open,
-    seen: sides.every(({ width, height }) => width && height), right: Math.max(...sides.map(({ right }) => right)), whole: box.scrollHeight - box.clientHeight <= 1,
+    seen: sides.every(({ width, height }) => width && height), right: Math.max(...sides.map(({ right }) => right)), whole: [box, table].every((one) => one.scrollHeight - one.clientHeight <= 1),
     lanes: document.querySelectorAll('#names .lane').length, high: canvas.offsetHeight - document.getElementById('names').offsetHeight, hidden: %s };
 })()""" % HIDDEN.replace("!==", "===")
 SHEET = 180 / 25.4 * 96  # what a sheet of A4 or Letter has between its margins
@@ -204,7 +204,7 @@ def as_printed(found, lanes_, rows, name):
 def paper(browser, path, facts):
     """On paper a dark page is light, without controls, as wide as a sheet, with all lanes and rows in sight; then it is as before."""
     media(browser, dark=True)
-    size(browser, 1280)
+    size(browser, 1280, 500)
     browser.open(path)
     names = len(browser.value(NAMES))
     rows = 1 + min(len(facts.legal), 240 // facts.plan.cores * facts.plan.cores)
