@@ -109,10 +109,9 @@ function waitsOf(task) {
   for (const { kind, job, res, first, end } of trackOf(DOES, task).blocks.filter(({ legal }) => legal)) {
     const last = waits[waits.length - 1];
     const spins = kind === SPIN ? end - first : 0;
-    if (spins && last && last.job === job && last.end === first) {
-      last.spins += spins;
-      last.end = end;
-    } else if (spins || kind === QUEUE) waits.push({ task, job, res, first, end, spins });
+    const isOne = spins && last && last.job === job && last.end === first;
+    if (isOne) Object.assign(last, { end, spins: last.spins + spins });
+    else if (spins || kind === QUEUE) waits.push({ task, job, res, first, end, spins });
   }
   return waits;
 }
@@ -123,8 +122,8 @@ tracks.forEach((track) => track.sort());
 const allJobs = jobs.flat();
 const lateJobs = allJobs.filter(isLate).sort((a, b) => a.deadline - b.deadline);
 const allWaits = facts.tasks.flatMap((_, task) => waitsOf(task));
-const lengthOf = (wait) => wait.end - wait.first;
-const longestWait = allWaits.reduce((best, wait) => (!best || lengthOf(wait) > lengthOf(best) ? wait : best), null);
+const lengthOf = ({ first, end }) => end - first;
+const longestWait = [...allWaits].sort((a, b) => lengthOf(b) - lengthOf(a))[0];
 
 // The tick of the fault: that of its row, or the one in which a row is missing.
 const missing = facts.fault ? Math.min(Math.floor((facts.fault[0] - 1) / facts.cores), facts.ticks - 1) : -1;
@@ -192,7 +191,7 @@ function describe(lane, tick) {
   if (lane.what === 'ceiling') return `${tickText(tick)}, core ${lane.core}: ceiling ${block ? block.value : 0}`;
   if (lane.what === 'queue') {
     if (!block) return `${tickText(tick)}: nobody is in the queue of ${lane.name}`;
-    const waiting = block.value ? `, ${block.value} behind it` : '';
+    const waiting = block.value ? `, ${block.value} more wait` : '';
     return `${tickText(tick)}: ${jobText(block)} is first in the queue of ${lane.name}${waiting}${spanText(block)}`;
   }
   const place = placeText(tick, lane.core);
@@ -399,8 +398,7 @@ function sizeCanvas() {
   const ratio = state.isPaper ? 3 : window.devicePixelRatio || 1;
   state.width = Math.max(50, box.clientWidth - byId('names').offsetWidth);
   state.height = Math.min(state.bottom, state.isPaper ? state.bottom : box.clientHeight);
-  canvas.width = Math.round(state.width * ratio);
-  canvas.height = Math.round(state.height * ratio);
+  Object.assign(canvas, { width: Math.round(state.width * ratio), height: Math.round(state.height * ratio) });
   canvas.style.height = `${state.height}px`;
   context.setTransform(ratio, 0, 0, ratio, 0, 0);
   drawMap();
@@ -712,9 +710,10 @@ function choose(place) {
 
 // ---- head, report, legend and table
 
+// An element with texts and elements in it.
 function element(name, content = '', className = '') {
   const made = document.createElement(name);
-  made.append(content);
+  made.append(...[content].flat());
   made.className = className;
   return made;
 }
@@ -743,7 +742,7 @@ function writeHead() {
 
 // A line of the reasons, in which rows, ticks and jobs are links into the picture.
 function whyLine(text) {
-  const line = element('p', '', text.startsWith('not exercised') ? 'missed' : '');
+  const line = element('div', '', text.startsWith('not exercised') ? 'missed' : '');
   const pattern = /\b(?:row (\d+)|tick (\d+)|([A-Za-z_][A-Za-z_0-9]*),(\d+)(?=[,\s)]|$))/g;
   let end = 0;
   for (const found of text.matchAll(pattern)) {
@@ -796,13 +795,7 @@ function reportRow([name, core, deadline], task) {
     bar(`${name}, longest blocking`, blocked, blockedBound, own.find((job) => blocked && blockedRows(job) === blocked)),
   ];
   const cells = [...numbers.map((cell) => element('td', cell, 'number')), ...bars.map((cell) => element('td', cell))];
-  return rowOf([element('th', name), ...cells]);
-}
-
-function rowOf(cells) {
-  const row = element('tr');
-  row.append(...cells);
-  return row;
+  return element('tr', [element('th', name), ...cells]);
 }
 
 function writeReport() {
@@ -815,11 +808,11 @@ function writeReport() {
 function writeTable() {
   const head = ['Tick', ...(facts.unit ? ['Time'] : []), 'Core', 'Kind', 'Job', 'Resource', 'Row', 'Line'];
   const to = Math.min(Math.ceil(view.to), Math.floor(view.from) + Math.floor(240 / facts.cores), begun);
-  const rows = [rowOf(head.map((cell) => element('th', cell)))];
+  const rows = [element('tr', head.map((cell) => element('th', cell)))];
   for (let place = Math.floor(view.from) * facts.cores; place < to * facts.cores; place++) {
     const [tick, core] = [Math.floor(place / facts.cores), place % facts.cores];
     const row = rowNumber(tick, core);
-    if (row && row <= legalRows) rows.push(rowOf(rowCells(tick, core, row).map((cell) => element('td', cell))));
+    if (row && row <= legalRows) rows.push(element('tr', rowCells(tick, core, row).map((cell) => element('td', cell))));
   }
   byId('table').replaceChildren(...rows);
 }

@@ -83,8 +83,8 @@ def texts(browser, page, path, facts):
     size(browser, 1280)
     browser.open(path)
     said = {text for text, *_ in browser.value("window.texts")}
-    wanted = {"J0", "J1"} | {task["name"] for task in facts.plan.tasks} | {name for name in facts.plan.shared}
-    judge(wanted <= said | {word.split()[0] for word in said}, f"labels: {wanted - said}")
+    wanted = {"J0", "J1", "logger +2", *(task["name"] for task in facts.plan.tasks), *facts.plan.shared, *map(str, facts.plan.tops)}
+    judge(wanted <= said, f"labels: {wanted - said}")
 
 
 # ---- lanes
@@ -165,6 +165,7 @@ def told_apart(hues):
 
 OUTSIDE = """[...document.querySelectorAll('body *')].filter((part) => !part.closest('.wide') && part.offsetWidth
   && part.getBoundingClientRect().right > document.documentElement.clientWidth + 0.5).map((part) => part.id || part.outerHTML.slice(0, 60))"""
+CLEAR = "[...document.querySelectorAll('#legend i')].map((one) => getComputedStyle(one)).filter((one) => one.backgroundColor === 'rgba(0, 0, 0, 0)').length"
 HIDDEN = "['controls', 'help', 'tip', 'map-box'].filter((name) => getComputedStyle(document.getElementById(name)).display !== 'none')"
 
 
@@ -175,6 +176,7 @@ def screens(browser, path):
         for width in (1280, 400):
             size(browser, width)
             browser.open(path)
+            judge(browser.value(CLEAR) == 0 and browser.value("document.querySelectorAll('#legend li').length") == 10, f"{path.stem}: legend")
             readable(browser, f"{path.stem}, {'dark' if dark else 'light'}")
             judge(not browser.value(OUTSIDE), f"{path.stem}, {width} pixels: too wide {browser.value(OUTSIDE)}")
     media(browser)
