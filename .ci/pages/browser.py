@@ -98,6 +98,10 @@ class Browser:
             self.mouse(kind, x, y, button="left", buttons=int(kind == "mousePressed"), clickCount=1)
         self.rest()
 
+    def touch(self, kind, *points):
+        """Fingers at these points."""
+        self.ask("Input.dispatchTouchEvent", type=kind, touchPoints=[dict(x=x, y=y, id=number) for number, (x, y) in enumerate(points)])
+
     def press(self, key):
         code = {"+": "Equal", "-": "Minus"}.get(key, key)
         more = {"text": key} if len(key) == 1 else {}
