@@ -218,12 +218,11 @@ static void expect_good(uint32_t status, const char *what) {
     exit((int)status);
 }
 
-/* Says what is wrong with a plan, or odd in it. */
+/* Says why a plan is refused. */
 static void explain(const char *plan, size_t length) {
     uint8_t words[4096];
     size_t needed;
-    uint32_t status = msrp_why_plan((const uint8_t *)plan, length, words, sizeof words, &needed, &found);
-    if (status == MSRP_GOOD || status == MSRP_REFUSED)
+    if (msrp_why_plan((const uint8_t *)plan, length, words, sizeof words, &needed, &found) == MSRP_REFUSED)
         fwrite(words, 1, needed, stderr);
 }
 
