@@ -214,11 +214,16 @@ static void stop(int status, const char *what, const char *why) {
 static void expect_good(uint32_t status, const char *what) {
     if (status == MSRP_GOOD)
         return;
-    fprintf(stderr, "executive: %s: status %" PRIu32, what, status);
-    if (status == MSRP_REFUSED)
-        fprintf(stderr, ", P%" PRIu32 " at record %" PRIu32, found.plan_code, found.number);
-    fputc('\n', stderr);
+    fprintf(stderr, "executive: %s: status %" PRIu32 "\n", what, status);
     exit((int)status);
+}
+
+/* Says why a plan is refused. */
+static void explain(const char *plan, size_t length) {
+    uint8_t words[4096];
+    size_t needed;
+    if (msrp_why_plan((const uint8_t *)plan, length, words, sizeof words, &needed, &found) == MSRP_REFUSED)
+        fwrite(words, 1, needed, stderr);
 }
 
 /* The text of a file, with a 0 after it. */
@@ -256,6 +261,7 @@ static void bind_tasks(const char *plan) {
 static void load(struct msrp_run *run, const char *path) {
     size_t length;
     char *plan = text_of(path, &length);
+    explain(plan, length);
     expect_good(msrp_run_new((uint8_t *)plan, length, run, &found), path);
     expect_good(msrp_auditor_new((uint8_t *)plan, length, &auditor, &found), path);
     bind_tasks(plan);
