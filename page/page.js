@@ -542,7 +542,7 @@ const firstLater = (all) => firstOf(all, (job) => job.release > view.to);
 function drawArrows(lane, top) {
   const [last, paths] = [[-9, -9, -9], [new Path2D(), new Path2D()]];
   const inSight = lane.jobs.slice(firstJob(lane.jobs), firstLater(lane.jobs));
-  if (inSight.length > state.width / 24) return;
+  if (inSight.length > state.width / 20) return;
   for (const job of inSight) {
     const path = paths[!state.selected || state.related.has(job) ? 1 : 0];
     [job.release, job.deadline, job.finished ? job.end : -1].forEach((tick, moment) => {
