@@ -1021,12 +1021,13 @@ function pointerUp(event) {
   if (pointers.delete(event.pointerId) && moved <= 3 && event.type === 'pointerup') choose(placeAt(event));
 }
 
+// Browsers report two fingers on a touchpad as a wheel with the control key, in small steps.
 function wheel(event) {
   event.preventDefault();
   const { deltaX, deltaY } = event;
   if (event.shiftKey || Math.abs(deltaX) > Math.abs(deltaY)) return pan((deltaX || deltaY) / scale());
   const around = tickAt(event.clientX - canvas.getBoundingClientRect().left);
-  zoom(Math.exp(Math.max(-1, Math.min(1, deltaY / 300))), around);
+  zoom(Math.exp(Math.max(-1, Math.min(1, deltaY / (event.ctrlKey ? 60 : 300)))), around);
 }
 
 // The next place in a lane, to the right or to the left: where a block begins.
