@@ -559,11 +559,11 @@ function drawArrows(lane, top) {
   context.stroke(paths[1]);
 }
 
-// The lane of the row that violates a rule.
+// The lane of the row that violates a rule, or of a core that lacks a row.
 function faultLane() {
-  if (!facts.broken) return lanes[0];
-  const [, core, , task] = facts.broken;
-  return (task && taskLane(task - 1)) || lanes.find((lane) => lane.what === 'core' && lane.core === core) || lanes[0];
+  const [, core, , task] = facts.broken || [];
+  const isFaulty = (lane) => (facts.broken ? lane.core === core : !rowNumber(faultTick, lane.core));
+  return (task && taskLane(task - 1)) || lanes.filter(({ what }) => what === 'core').find(isFaulty) || lanes[0];
 }
 
 // A frame around some ticks of a lane.
@@ -721,7 +721,8 @@ function element(name, content = '', className = '') {
 function verdictText() {
   if (!facts.fault) return `A legal run: all ${plural(legalRows, 'row')} obey the plan`;
   const [row, rule] = facts.fault;
-  return `Not a legal run: ${facts.broken ? `row ${row}` : `the trace after row ${row - 1}`} violates rule ${rule}`;
+  const where = facts.broken ? `row ${row}` : `its end after ${plural(row - 1, 'row')}`;
+  return `Not a legal run: ${where} violates rule ${rule}`;
 }
 
 function writeHead() {
