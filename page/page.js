@@ -542,7 +542,7 @@ const firstLater = (all) => firstOf(all, (job) => job.release > view.to);
 function drawArrows(lane, top) {
   const [last, paths] = [[-9, -9, -9], [new Path2D(), new Path2D()]];
   const inSight = lane.jobs.slice(firstJob(lane.jobs), firstLater(lane.jobs));
-  if (inSight.length > state.width / 24) return;
+  if (inSight.length > state.width / 20) return;
   for (const job of inSight) {
     const path = paths[!state.selected || state.related.has(job) ? 1 : 0];
     [job.release, job.deadline, job.finished ? job.end : -1].forEach((tick, moment) => {
@@ -559,11 +559,11 @@ function drawArrows(lane, top) {
   context.stroke(paths[1]);
 }
 
-// The lane of the row that violates a rule.
+// The lane of the row that violates a rule, or of a core that lacks a row.
 function faultLane() {
-  if (!facts.broken) return lanes[0];
-  const [, core, , task] = facts.broken;
-  return (task && taskLane(task - 1)) || lanes.find((lane) => lane.what === 'core' && lane.core === core) || lanes[0];
+  const [, core, , task] = facts.broken || [];
+  const isFaulty = (lane) => (facts.broken ? lane.core === core : !rowNumber(faultTick, lane.core));
+  return (task && taskLane(task - 1)) || lanes.filter(({ what }) => what === 'core').find(isFaulty) || lanes[0];
 }
 
 // A frame around some ticks of a lane.
@@ -721,7 +721,8 @@ function element(name, content = '', className = '') {
 function verdictText() {
   if (!facts.fault) return `A legal run: all ${plural(legalRows, 'row')} obey the plan`;
   const [row, rule] = facts.fault;
-  return `Not a legal run: ${facts.broken ? `row ${row}` : `the trace after row ${row - 1}`} violates rule ${rule}`;
+  const where = facts.broken ? `row ${row}` : `its end after ${plural(row - 1, 'row')}`;
+  return `Not a legal run: ${where} violates rule ${rule}`;
 }
 
 function writeHead() {
@@ -868,12 +869,13 @@ function pointerUp(event) {
   if (pointers.delete(event.pointerId) && moved <= 3 && event.type === 'pointerup') choose(placeAt(event));
 }
 
+// Browsers report two fingers on a touchpad as a wheel with the control key, in small steps.
 function wheel(event) {
   event.preventDefault();
   const { deltaX, deltaY } = event;
   if (event.shiftKey || Math.abs(deltaX) > Math.abs(deltaY)) return pan((deltaX || deltaY) / scale());
   const around = tickAt(event.clientX - canvas.getBoundingClientRect().left);
-  zoom(Math.exp(Math.max(-1, Math.min(1, deltaY / 300))), around);
+  zoom(Math.exp(Math.max(-1, Math.min(1, deltaY / (event.ctrlKey ? 60 : 300)))), around);
 }
 
 // The next place in a lane, to the right or to the left: where a block begins.

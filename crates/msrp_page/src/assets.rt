@@ -15,66 +15,83 @@ pub(crate) const HEAD: &str = r#"<!doctype html>
   font: 14px/1.45 system-ui, sans-serif;
 }
 @media (prefers-color-scheme: dark) {
-  :root {
+  :root:not(.paper) {
     --back: #16181b; --text: #e8e8e8; --faint: #a5a8ad; --line: #3a3e44; --lane: #1e2125;
-    --works: #4a535e; --runs: #57636f; --waits: #8a8f96; --late: #ff6b6b; --life: #aaa; --ceiling: #3a3e44; --focus: #7ab8ff;
+    --works: #4a535e; --runs: #57636f; --waits: #8a8f96; --late: #ff6b6b; --life: #aaa; --ceiling: #3a3e44;
+    --focus: #7ab8ff;
   }
 }
+.paper {
+  color-scheme: light; -webkit-print-color-adjust: exact; print-color-adjust: exact;
+  --text: #000; --faint: #444; --line: #bbb; --lane: #fff;
+}
 * { box-sizing: border-box; }
+.paper :is(#controls, #help, #tip, #map-box) { display: none; }
 body { margin: 0 auto; padding: 0 16px 24px; max-width: 1800px; background: var(--back); color: var(--text); }
+#detail, #tip { white-space: pre-line; }
+.paper body { width: 180mm; margin: 0; padding: 0; }
 h1 { font-size: 22px; margin: 16px 0 0; }
-h1.fault { color: var(--late); }
-h2 { font-size: 17px; margin: 20px 0 6px; }
-p { margin: 4px 0; }
-#size, #help, #report-note { color: var(--faint); }
-#why { font: 13px/1.5 ui-monospace, monospace; white-space: pre-wrap; overflow-wrap: anywhere; }
-#why p { margin: 0; }
+h2 { font-size: 17px; margin: 20px 0 6px; break-after: avoid; }
+p { margin: 4px 0; overflow-wrap: anywhere; }
+#size, #help, #report-note, .what, .bar:disabled { color: var(--faint); }
+.fault { color: var(--late); }
+#why { font: 13px/1.5 ui-monospace, monospace; white-space: pre-wrap; }
 #why .missed::before { content: "\2013\00a0"; }
-button, input { font: inherit; color: inherit; }
-button { border: 1px solid var(--line); border-radius: 4px; background: var(--lane); padding: 2px 9px; cursor: pointer; }
-button:disabled { opacity: .45; cursor: default; }
-button.link { border: 0; padding: 0; background: none; color: var(--focus); text-decoration: underline; font: inherit; }
+button, input { font: inherit; color: inherit; padding: 2px 9px; background: var(--lane); }
+button, input, #map-box, #lanes, #tip { border: 1px solid var(--line); border-radius: 4px; }
+button { cursor: pointer; }
+button:disabled { opacity: .5; cursor: default; }
+.link { border: 0; padding: 0; background: none; color: var(--focus); text-decoration: underline; text-align: left; }
+.number .link { color: var(--late); font-weight: 600; }
 :focus-visible { outline: 2px solid var(--focus); outline-offset: 1px; }
-#controls { display: flex; flex-wrap: wrap; gap: 6px 10px; align-items: center; }
-#controls form { display: inline; }
-#tick { border: 1px solid var(--line); border-radius: 4px; background: var(--back); padding: 2px 4px; }
-#map { display: block; width: 100%; height: 44px; margin: 8px 0; border: 1px solid var(--line); touch-action: none; cursor: pointer; }
-#lanes { display: grid; grid-template-columns: 190px 1fr; max-height: min(72vh, 900px); overflow-y: auto; border: 1px solid var(--line); }
+#controls, #legend, #legend li { display: flex; flex-wrap: wrap; gap: 6px 10px; align-items: center; }
+#map-box { position: relative; margin: 8px 0; }
+#map { display: block; width: 100%; height: 44px; touch-action: none; cursor: pointer; }
+#window { position: absolute; top: 0; bottom: 0; min-width: 4px; border: 2px solid var(--focus); pointer-events: none; }
+#lanes { display: grid; grid-template-columns: min(190px, 34vw) 1fr; max-height: min(72vh, 900px); overflow-y: auto; }
+.paper :is(#lanes, #detail, #table) { position: static; max-height: none; overflow: visible; }
 #names { position: relative; border-right: 1px solid var(--line); }
-#names .lane { position: absolute; left: 0; right: 0; padding: 0 8px; display: flex; align-items: center; justify-content: flex-end; gap: 6px; overflow: hidden; white-space: nowrap; }
-#names .lane > :first-child { overflow: hidden; text-overflow: ellipsis; }
-#names .lane .what { color: var(--faint); font-size: 11px; }
-#names button { border: 0; background: none; padding: 0; font-weight: 600; margin-right: auto; }
-#corner { position: sticky; top: 0; z-index: 1; height: 26px; padding: 3px 8px; text-align: right; color: var(--faint); font-size: 12px; background: var(--back); border-bottom: 1px solid var(--line); }
-#canvas { position: sticky; top: 0; display: block; width: 100%; touch-action: none; cursor: crosshair; align-self: start; }
-#detail { min-height: 3em; padding: 6px 0; white-space: pre-line; }
-#legend { display: flex; flex-wrap: wrap; gap: 4px 18px; margin: 4px 0; padding: 0; list-style: none; font-size: 12px; }
-#legend li { display: flex; align-items: center; gap: 6px; }
-#legend i { width: 24px; height: 12px; print-color-adjust: exact; }
+.lane {
+  position: absolute; left: 0; right: 0; padding: 0 8px; white-space: nowrap;
+  display: flex; align-items: center; justify-content: flex-end; gap: 6px;
+}
+.lane > * { overflow: hidden; text-overflow: ellipsis; }
+.lane .what { flex-shrink: 99999; font-size: 11px; }
+.lane button { border: 0; background: none; padding: 0; font-weight: 600; margin-right: auto; }
+#corner, #canvas { position: sticky; top: 0; }
+#corner {
+  z-index: 1; height: 26px; padding: 3px 8px; font-size: 12px; text-align: right;
+  border-bottom: 1px solid var(--line); background: var(--back); color: var(--faint);
+}
+#canvas { width: 100%; align-self: start; outline-offset: -2px; touch-action: none; cursor: crosshair; }
+#detail { position: sticky; bottom: 0; padding: 6px 0; max-height: 40vh; overflow: auto; background: var(--back); }
+#legend { gap: 4px 18px; margin: 4px 0; padding: 0; font-size: 12px; }
+#legend i { width: 24px; height: 12px; }
 #legend .works { background-color: var(--works); }
 #legend .spins { background-image: repeating-linear-gradient(135deg, var(--waits) 0 1px, transparent 1px 5px); }
-#legend .first { background: #eebc4d; width: 12px; margin-right: -6px; }
+#legend .first { background: #eebc4d; width: 12px; margin-right: -10px; }
 #legend .second { background: #89cbf0; }
 #legend .life { background: var(--life); height: 2px; }
 #legend .overdue { background: var(--late); height: 4px; }
 #legend .ceiling { background: var(--ceiling); }
-#tip { position: fixed; z-index: 5; max-width: 420px; padding: 5px 8px; border: 1px solid var(--line); border-radius: 4px; background: var(--back); box-shadow: 0 2px 8px #0004;
-  white-space: pre-line; pointer-events: none; font-size: 12.5px; }
-table { border-collapse: collapse; }
-th, td { padding: 3px 10px 3px 0; text-align: left; vertical-align: middle; border-bottom: 1px solid var(--line); }
-td.number, th.number { text-align: right; font-variant-numeric: tabular-nums; }
-.bar { display: block; width: 220px; text-align: left; position: relative; height: 22px; padding: 0; overflow: hidden; }
-.bar .fill { position: absolute; inset: 0 auto 0 0; background: var(--runs); }
-.bar .over { position: absolute; inset: 0 auto 0 0; background: repeating-linear-gradient(45deg, var(--late) 0 4px, transparent 4px 8px); }
-.bar .said { position: relative; padding: 0 6px; }
-.late { color: var(--late); font-weight: 600; }
-#table { max-height: 320px; overflow: auto; font-size: 12.5px; }
-@media print {
-  :root { color-scheme: light; --back: #fff; --text: #000; --faint: #444; --line: #bbb; --lane: #fff; --works: #d8dde2; --runs: #bcc7d2; --late: #b00020; --life: #555; --ceiling: #e2e2e2; }
-  #controls, #help, #tip, #map, #rows { display: none; }
-  #lanes { max-height: none; overflow: visible; }
-  body { max-width: none; }
+#tip {
+  position: fixed; z-index: 5; max-width: min(420px, 94vw); padding: 5px 8px; box-shadow: 0 2px 8px #0004;
+  background: var(--back); font-size: 12.5px; pointer-events: none;
 }
+.wide { overflow-x: auto; }
+table { border-collapse: collapse; }
+tr { break-inside: avoid; }
+th, td { padding: 3px 10px 3px 0; text-align: left; border-bottom: 1px solid var(--line); }
+.number { text-align: right; font-variant-numeric: tabular-nums; }
+.bar {
+  width: 220px; padding: 0 6px; text-align: left; white-space: nowrap;
+  background: linear-gradient(90deg, var(--runs) min(var(--observed), var(--bound)), transparent 0),
+    linear-gradient(90deg, transparent var(--observed), var(--back) 0),
+    repeating-linear-gradient(45deg, var(--late) 0 3px, var(--back) 3px 8px);
+}
+.bar:disabled { opacity: 1; }
+.paper .bar { width: 120px; }
+#table { display: block; max-height: 320px; overflow: auto; font-size: 12.5px; }
 </style>
 </head>
 <body>
@@ -94,9 +111,10 @@ td.number, th.number { text-align: right; font-variant-numeric: tabular-nums; }
 <button data-key="l" id="to-late" title="Key L">Next late job</button>
 <button data-key="w" id="to-wait" title="Key W">Longest wait</button>
 <form id="to-tick"><label>Tick <input id="tick" inputmode="numeric" size="7"></label> <button>Go</button></form>
-<label><input type="checkbox" id="hide" checked> Hide lanes without a job in sight</label>
+<label><input type="checkbox" id="hide" checked> Hide empty lanes</label>
+<label title="NAME_1, NAME_2 and so on, which look like one task"><input type="checkbox" id="join" checked> Join split tasks</label>
 </div>
-<canvas id="map" aria-hidden="true"></canvas>
+<div id="map-box" aria-hidden="true"><canvas id="map"></canvas><i id="window"></i></div>
 <div id="lanes">
 <div id="names"><div id="corner"></div></div>
 <canvas id="canvas" tabindex="0" role="application" aria-label="Timeline" aria-describedby="help"></canvas>
@@ -112,19 +130,19 @@ td.number, th.number { text-align: right; font-variant-numeric: tabular-nums; }
 <li><b>↑</b>release</li>
 <li><b>↓</b>absolute deadline</li>
 <li><b>⊤</b>completion</li>
-<li><i class="second"></i>resource: the first in its queue, +n wait behind it</li>
+<li><i class="second"></i>resource: the first in its queue, and +n that wait</li>
 </ul>
-<p id="help">Wheel or + and -: zoom. Drag: pan. Page up and Page down: pan. Arrow keys: next block, next lane.
+<p id="help">Wheel, two fingers or + and -: zoom. Drag, Page up and Page down: pan. Arrow keys: next block, next lane.
 Enter or click: light up a job and the jobs it waited for. Escape: clear. F: fault. L: next late job. W: longest wait. 0: whole run.</p>
-<details id="rows"><summary>Rows in sight as a table</summary><div id="table"></div></details>
+<details id="rows"><summary>Rows in sight as a table</summary><div class="wide"><table id="table"></table></div></details>
 </section>
 <section aria-labelledby="report-head">
 <h2 id="report-head">Report</h2>
 <p id="report-note"></p>
-<table id="report">
+<div class="wide"><table id="report">
 <tr><th scope="col">Task</th><th scope="col" class="number">Core</th><th scope="col" class="number">Finished</th><th scope="col" class="number">Late</th>
 <th scope="col">Worst response, of the relative deadline</th><th scope="col">Longest spin, of its bound</th><th scope="col">Longest blocking, of its bound</th></tr>
-</table>
+</table></div>
 </section>
 </main>
 <div id="tip" hidden></div>
@@ -135,7 +153,7 @@ pub(crate) const TAIL: &str = r#"</script>
 <script>
 'use strict';
 // Draws the facts that the program wrote into this page. It judges nothing. Times are ticks. Names are data: they are
-// shown by textContent and by the canvas, never as markup.
+// shown by text nodes and by the canvas, never as markup.
 
 const byId = (name) => document.getElementById(name);
 const facts = JSON.parse(byId('facts').textContent);
@@ -151,51 +169,57 @@ const DEEDS = 'idles,runs,locks,unlocks,acquires,joins the queue of,spins on,acq
 const FIELDS = [['task', 'job'], ['job', 'kind', 'res'], ['job', 'res'],
   ['task', 'job', 'value'], ['job', 'value'], ['job'], ['value']];
 
+// The place of the first of which this holds, as of all after it.
+function firstOf(all, holds) {
+  let [low, high] = [0, all.length];
+  while (low < high) {
+    const middle = (low + high) >> 1;
+    if (holds(all[middle])) high = middle; else low = middle + 1;
+  }
+  return low;
+}
+
 // The blocks of one look in a lane, in the order of their first ticks.
 class Track {
   constructor() {
     this.blocks = [];
-    this.reach = null;
+    this.reach = [];
+  }
+
+  // Puts the blocks in order. How far the blocks up to each place reach is kept.
+  sort() {
+    let most = 0;
+    this.blocks.sort((a, b) => a.first - b.first);
+    this.reach = this.blocks.map(({ end }) => { most = Math.max(most, end); return most; });
   }
 
   // The place of the first block that may last beyond a tick.
   place(tick) {
-    if (!this.reach) {
-      let most = 0;
-      this.reach = Int32Array.from(this.blocks, (block) => { most = Math.max(most, block.end); return most; });
-    }
     return firstOf(this.reach, (end) => end > tick);
   }
 
-  // Visits the blocks between two ticks. Of blocks closer to one another than so many ticks it visits one.
-  visit(from, to, least, each) {
+  // The blocks between two ticks. Of blocks closer to one another than so many ticks it yields one.
+  * between(from, to, least = 1) {
     let at = this.place(from);
     while (at < this.blocks.length && this.blocks[at].first < to) {
       const block = this.blocks[at];
-      if (block.end > from) each(block);
+      if (block.end > from) yield block;
       at += 1;
       if (least > 1) at = Math.max(at, this.place(Math.max(block.end, Math.ceil(block.first + least))));
     }
   }
 
-  // The last block that begins at or before a tick, and lasts beyond it.
+  // The last block in a tick: a legal one, if there is one.
   at(tick) {
-    let found = null;
-    this.visit(tick, tick + 1, 1, (block) => { found = block; });
-    return found;
+    const found = [...this.between(tick, tick + 1)];
+    return found.filter(({ legal }) => legal).pop() || found.pop() || null;
   }
 }
 
-const tracks = new Map();
-
-function trackOf(look, lane, legal) {
-  const name = (look * 64 + lane) * 2 + (legal ? 1 : 0);
-  if (!tracks.has(name)) tracks.set(name, new Track());
-  return tracks.get(name);
-}
+const tracks = Array.from({ length: 7 * 64 }, () => new Track());
+const trackOf = (look, lane) => tracks[look * 64 + lane];
 
 function readBlocks([look, lane, legal, ...numbers]) {
-  const { blocks } = trackOf(look, lane, legal);
   const fields = FIELDS[look];
   let first = 0;
   for (let at = 0; at < numbers.length; at += fields.length + 2) {
@@ -204,11 +228,11 @@ function readBlocks([look, lane, legal, ...numbers]) {
     const block = { look, first, end, legal: legal === 1, task: lane, job: -1, kind: 0, res: lane, value: 0 };
     fields.forEach((field, place) => { block[field] = numbers[at + 2 + place]; });
     if (look === DOES) block.res -= 1;
-    blocks.push(block);
+    trackOf(look, lane).blocks.push(block);
   }
 }
 
-const [RELEASE, DEADLINE, COMPLETION] = [0, 1, 2];
+const [RELEASE, COMPLETION] = [0, 2];
 const taskName = (task) => facts.tasks[task][0];
 const resName = (res) => facts.resources[res][0];
 const legalRows = facts.order.length;
@@ -217,76 +241,68 @@ const begun = Math.ceil(legalRows / facts.cores);
 // The jobs of each task, by their numbers.
 const jobs = facts.tasks.map(() => []);
 
-function readEvents(group) {
-  const [moment, task] = group;
+function readEvents([moment, task, ...numbers]) {
   let tick = 0;
-  for (let at = 2; at < group.length; at += 2) {
-    tick += group[at];
-    const number = group[at + 1];
-    if (moment === RELEASE) {
-      const deadline = tick + facts.tasks[task][2];
-      jobs[task][number] = { task, number, release: tick, deadline, end: begun, finished: false };
-    } else if (moment === COMPLETION) {
-      Object.assign(jobs[task][number], { end: tick, finished: true });
-    }
+  for (let at = 0; at < numbers.length; at += 2) {
+    tick += numbers[at];
+    const number = numbers[at + 1];
+    const deadline = tick + facts.tasks[task][2];
+    if (moment === RELEASE) jobs[task][number] = { task, number, release: tick, deadline, end: begun, finished: false };
+    if (moment === COMPLETION) Object.assign(jobs[task][number], { end: tick, finished: true });
   }
 }
 
-const keyOf = (task, job) => task * 16384 + job;
-const jobOf = (task, number) => (jobs[task] ? jobs[task][number] : undefined);
+const jobOf = ({ task, job }) => (jobs[task] ? jobs[task][job] : undefined);
 const isLate = (job) => job.end > job.deadline || (!job.finished && job.deadline <= begun);
 const response = (job) => (job.finished ? job.end - job.release : 0);
 
 // The stretches in which the jobs of a task wait for a global resource.
 function waitsOf(task) {
   const waits = [];
-  for (const { kind, job, res, first, end } of trackOf(DOES, task, true).blocks) {
+  for (const { kind, job, res, first, end } of trackOf(DOES, task).blocks.filter(({ legal }) => legal)) {
     const last = waits[waits.length - 1];
     const spins = kind === SPIN ? end - first : 0;
-    if (spins && last && last.job === job && last.end === first) {
-      last.spins += spins;
-      last.end = end;
-    } else if (spins || kind === QUEUE) waits.push({ task, job, res, first, end, spins });
+    const isOne = spins && last && last.job === job && last.end === first;
+    if (isOne) Object.assign(last, { end, spins: last.spins + spins });
+    else if (spins || kind === QUEUE) waits.push({ task, job, res, first, end, spins });
   }
   return waits;
 }
 
 facts.blocks.forEach(readBlocks);
 facts.events.forEach(readEvents);
-for (const track of tracks.values()) track.blocks.sort((a, b) => a.first - b.first);
+tracks.forEach((track) => track.sort());
 const allJobs = jobs.flat();
 const lateJobs = allJobs.filter(isLate).sort((a, b) => a.deadline - b.deadline);
 const allWaits = facts.tasks.flatMap((_, task) => waitsOf(task));
-const lengthOf = (wait) => wait.end - wait.first;
-const longestWait = allWaits.reduce((best, wait) => (!best || lengthOf(wait) > lengthOf(best) ? wait : best), null);
+const lengthOf = ({ first, end }) => end - first;
+const longestWait = [...allWaits].sort((a, b) => lengthOf(b) - lengthOf(a))[0];
 
 // The tick of the fault: that of its row, or the one in which a row is missing.
-function faultTick() {
-  const expected = Math.floor((facts.fault[0] - 1) / facts.cores);
-  return facts.broken && facts.broken[0] < facts.ticks ? facts.broken[0] : Math.min(expected, facts.ticks - 1);
-}
+const missing = facts.fault ? Math.min(Math.floor((facts.fault[0] - 1) / facts.cores), facts.ticks - 1) : -1;
+const faultTick = facts.broken && facts.broken[0] < facts.ticks ? facts.broken[0] : missing;
 
 // ---- words
 
 const UNITS = [['s', 1e9], ['ms', 1e6], ['us', 1e3], ['ns', 1]];
+const tickLength = facts.unit ? facts.unit[0] * UNITS.find(([name]) => name === facts.unit[1])[1] : 1;
 const plural = (count, word) => `${count.toLocaleString('en')} ${word}${count === 1 ? '' : 's'}`;
 
 function timeText(ticks) {
   if (!facts.unit) return String(ticks);
-  const time = ticks * facts.unit[0] * UNITS.find(([name]) => name === facts.unit[1])[1];
-  const [unit, size] = UNITS.find(([, least]) => Math.abs(time) >= least) || [facts.unit[1], 1];
+  const time = Math.round(ticks * tickLength);
+  const [unit, size] = UNITS.find(([, least]) => time >= least) || [facts.unit[1], 1];
   return `${Number((time / size).toPrecision(8))} ${unit}`;
 }
 
 const tickText = (tick) => (facts.unit ? `tick ${tick} (${timeText(tick)})` : `tick ${tick}`);
 const ticksText = (count) => (facts.unit ? timeText(count) : plural(count, 'tick'));
-const jobText = (task, job) => `job ${job} of ${taskName(task)}`;
+const jobText = ({ task, job }) => `job ${job} of ${taskName(task)}`;
 
-// The number of the row of a core in a tick, if it is legal.
+// The number of the row of a core in a tick, if it is legal or the one at fault.
 function rowNumber(tick, core) {
-  for (let row = tick * facts.cores; row < Math.min(legalRows, (tick + 1) * facts.cores); row++) {
-    if (facts.order.charCodeAt(row) - 48 === core) return row + 1;
-  }
+  const row = facts.order.slice(tick * facts.cores, (tick + 1) * facts.cores).indexOf(String(core));
+  if (row >= 0) return tick * facts.cores + row + 1;
   return facts.broken && facts.broken[0] === tick && facts.broken[1] === core ? facts.fault[0] : null;
 }
 
@@ -309,95 +325,112 @@ function lifeText(job) {
   return `released at ${timeText(job.release)}, absolute deadline ${timeText(job.deadline)}, ${end}${late}`;
 }
 
-function spanText(block) {
-  return block.end - block.first === 1 ? '' : `, ticks ${block.first} to ${block.end - 1}`;
-}
+const spanText = ({ first, end }) => (end - first === 1 ? '' : `, ticks ${first} to ${end - 1}`);
 
 // What a job does in a tick, and which resources it holds.
 function deedText(task, tick) {
-  const legal = trackOf(DOES, task, true).at(tick);
-  const block = legal || trackOf(DOES, task, false).at(tick);
-  const held = [];
-  trackOf(HOLDS, task, true).visit(tick, tick + 1, 1, (hold) => held.push(resName(hold.res)));
+  const block = trackOf(DOES, task).at(tick);
+  const held = Array.from(trackOf(HOLDS, task).between(tick, tick + 1), (hold) => resName(hold.res));
   const holds = held.length ? `; holds ${held.join(', ')}` : '';
   if (!block) return `released, not running${holds}`;
-  const after = legal ? '' : ' (after the fault: not judged)';
+  const after = block.legal ? '' : ' (after the fault: not judged)';
   return `${DEEDS[block.kind]}${block.res < 0 ? '' : ` ${resName(block.res)}`}${spanText(block)}${holds}${after}`;
 }
 
 // What is known of a tick in a lane, in lines.
 function describe(lane, tick) {
   const block = blockAt(lane, tick);
-  if (lane.what === 'ceiling') return `${tickText(tick)}, core ${lane.number}: ceiling ${block ? block.value : 0}`;
-  const core = lane.core;
-  if (lane.what === 'queue') {
-    if (!block) return `${tickText(tick)}: nobody is in the queue of ${resName(lane.number)}`;
-    const behind = block.value ? `, ${block.value} behind it` : '';
-    const said = `${jobText(block.task, block.job)} is first in the queue of ${resName(lane.number)}`;
-    return `${tickText(tick)}: ${said}${behind}${spanText(block)}`;
-  }
   if (lane.what === 'head') return 'Global resources';
-  if (!block) return `${placeText(tick, core)}: ${lane.what === 'core' ? 'idle' : 'no job of this task'}`;
-  const job = jobOf(block.task, block.job);
-  const said = `${placeText(tick, core)}\n${jobText(block.task, block.job)}: ${deedText(block.task, tick)}`;
-  return job ? `${said}\n${lifeText(job)}` : said;
+  if (lane.what === 'ceiling') return `${tickText(tick)}, core ${lane.core}: ceiling ${block ? block.value : 0}`;
+  if (lane.what === 'queue') {
+    if (!block) return `${tickText(tick)}: nobody is in the queue of ${lane.name}`;
+    const waiting = block.value ? `, ${block.value} more wait` : '';
+    return `${tickText(tick)}: ${jobText(block)} is first in the queue of ${lane.name}${waiting}${spanText(block)}`;
+  }
+  const place = placeText(tick, lane.core);
+  if (!block) return `${place}: ${lane.what === 'core' ? 'idle' : 'no job of this task'}`;
+  const said = `${place}\n${jobText(block)}: ${deedText(block.task, tick)}`;
+  return jobOf(block) ? `${said}\n${lifeText(jobOf(block))}` : said;
 }
 
 // ---- lanes
 
 const AXIS = 26;
 const HEIGHTS = { core: 24, ceiling: 15, task: 50, queue: 24, head: 22 };
+const LOOKS = { core: [RUNS], ceiling: [CEILING], task: [LIFE, DOES, HOLDS, LATE], queue: [FIRST], head: [] };
+// What a place in a lane is of: the first of these looks that has a block there.
+const POINTED = { ...LOOKS, task: [DOES, LIFE] };
 
-function laneOf(what, number, core, name, looks) {
-  const layers = looks.map((look) => [true, false].map((legal) => trackOf(look, number, legal)));
-  return { what, number, core, name, layers: layers.flat(), height: HEIGHTS[what], top: 0, shown: true };
+// A lane shows the blocks of these numbers: of a core, of a resource, or of the tasks that share the lane.
+function laneOf(what, numbers, core, name) {
+  const layers = LOOKS[what].flatMap((look) => numbers.map((number) => trackOf(look, number)));
+  const own = what === 'task' ? numbers.flatMap((task) => jobs[task]).sort((a, b) => a.release - b.release) : [];
+  return { what, numbers, core, name, layers, jobs: own, height: HEIGHTS[what], top: 0, shown: true };
 }
+
+// Tasks in groups that share a lane. What examples/adapters/bodies.py makes of one task has its core and its deadline,
+// is in its place, and is called NAME_1, NAME_2 and so on; a long name is cut for it. No two of their jobs are released
+// in one tick. Others may look the same by chance, so a reader can part them.
+function isOneTask(tasks) {
+  const stem = (name) => name.replace(/^(.{0,13}).*_\d+$/, '$1_');
+  const marks = tasks.map((task) => [stem(taskName(task)), ...facts.tasks[task].slice(1, 3)].join());
+  const releases = tasks.flatMap((task) => jobs[task].map(({ release }) => release));
+  return marks.every((mark) => mark === marks[0]) && new Set(releases).size === releases.length;
+}
+
+function groupTasks() {
+  const groups = [];
+  facts.tasks.forEach((_, task) => {
+    const last = groups[groups.length - 1];
+    if (last && isOneTask([...last, task])) last.push(task); else groups.push([task]);
+  });
+  return groups;
+}
+
+const groups = groupTasks();
+const suffixOf = (task) => taskName(task).match(/_\d+$/)[0];
 
 function makeLanes() {
-  const lanes = [];
-  for (let core = 0; core < facts.cores; core++) {
-    lanes.push(laneOf('core', core, core, `core ${core}`, [RUNS]), laneOf('ceiling', core, core, 'ceiling', [CEILING]));
-    facts.tasks.forEach((task, number) => {
-      if (task[1] === core) lanes.push(laneOf('task', number, core, task[0], [LIFE, DOES, HOLDS, LATE]));
-    });
-  }
+  const made = [];
   const shared = facts.resources.map((_, res) => res).filter((res) => facts.resources[res][1]);
-  if (shared.length) lanes.push(laneOf('head', 0, facts.cores, 'resources', []));
-  for (const res of shared) lanes.push(laneOf('queue', res, facts.cores, resName(res), [FIRST]));
-  return lanes;
-}
-
-const lanes = makeLanes();
-const folded = new Set();
-const isHead = (lane) => lane.what === 'core' || lane.what === 'head';
-const taskLane = (task) => lanes.find((lane) => lane.what === 'task' && lane.number === task);
-
-// Within sections, how deep each is in others: by this its strip is placed.
-function markDepths() {
-  for (const lane of lanes.filter(({ what }) => what === 'task')) {
-    let ends = [];
-    lane.depth = 1;
-    for (const block of trackOf(HOLDS, lane.number, true).blocks) {
-      ends = ends.filter((end) => end > block.first);
-      block.value = ends.length;
-      ends.push(block.end);
-      lane.depth = Math.max(lane.depth, ends.length);
+  const together = byId('join').checked ? groups : facts.tasks.map((_, task) => [task]);
+  for (let core = 0; core < facts.cores; core++) {
+    made.push(laneOf('core', [core], core, `core ${core}`), laneOf('ceiling', [core], core, 'ceiling'));
+    for (const tasks of together.filter(([task]) => facts.tasks[task][1] === core)) {
+      const name = taskName(tasks[0]);
+      made.push(laneOf('task', tasks, core, tasks.length > 1 ? name.slice(0, -suffixOf(tasks[0]).length) : name));
     }
   }
+  if (shared.length) made.push(laneOf('head', [], facts.cores, 'resources'));
+  for (const res of shared) made.push(laneOf('queue', [res], facts.cores, resName(res)));
+  return made;
 }
 
-function blockAt(lane, tick) {
-  const tracksOf = { core: [RUNS], ceiling: [CEILING], task: [DOES, LIFE], queue: [FIRST], head: [] }[lane.what];
-  for (const look of tracksOf) {
-    const block = trackOf(look, lane.number, true).at(tick) || trackOf(look, lane.number, false).at(tick);
-    if (block) return block;
+let lanes = makeLanes();
+const folded = new Set();
+const isHead = (lane) => lane.what === 'core' || lane.what === 'head';
+const taskLane = (task) => lanes.find(({ what, numbers }) => what === 'task' && numbers.includes(task));
+
+// Within sections, how deep each is in others: by this its strip is placed.
+function markDepths(task) {
+  let ends = [];
+  for (const block of trackOf(HOLDS, task).blocks) {
+    ends = ends.filter((end) => end > block.first);
+    block.value = ends.length;
+    ends.push(block.end);
   }
-  return null;
+  return Math.max(1, ...trackOf(HOLDS, task).blocks.map(({ value }) => value + 1));
+}
+
+const depths = facts.tasks.map((_, task) => markDepths(task));
+
+function blockAt({ what, numbers }, tick) {
+  const found = POINTED[what].flatMap((look) => numbers.map((number) => trackOf(look, number).at(tick)));
+  return found.find(Boolean) || null;
 }
 
 function isInSight(lane) {
-  if (lane.what !== 'task' && lane.what !== 'queue') return true;
-  const next = lane.what === 'task' ? jobs[lane.number][firstJob(jobs[lane.number])] : undefined;
+  const next = lane.jobs[firstJob(lane.jobs)];
   if (next && next.release <= view.to) return true;
   return lane.layers.some((track) => {
     const block = track.blocks[track.place(view.from)];
@@ -407,7 +440,7 @@ function isInSight(lane) {
 
 // The heads of what is folded are shown, and all else only if it is in sight or lit up.
 function isWanted(lane) {
-  const isLit = state.selected && lane.what === 'task' && lane.number === state.selected.task;
+  const isLit = state.selected && lane === taskLane(state.selected.task);
   return isHead(lane) || (!folded.has(lane.core) && (isLit || !byId('hide').checked || isInSight(lane)));
 }
 
@@ -427,22 +460,24 @@ function layOut() {
 
 function nameElement(lane) {
   const [made, isFolded] = [element('div', '', 'lane'), folded.has(lane.core)];
-  made.style.top = `${lane.top}px`;
-  made.style.height = `${lane.height}px`;
+  Object.assign(made.style, { top: `${lane.top}px`, height: `${lane.height}px` });
   if (isHead(lane)) {
     const name = element('button', `${isFolded ? '\u25b8' : '\u25be'} ${lane.name}`);
     name.setAttribute('aria-expanded', String(!isFolded));
     name.addEventListener('click', () => fold(lane.core));
     made.append(name);
   } else made.append(element('span', lane.name, lane.what === 'ceiling' ? 'what' : ''));
-  if (lane.what === 'task') made.append(element('span', `level ${facts.tasks[lane.number][3]}`, 'what'));
+  if (lane.what === 'task') {
+    const bodies = lane.numbers.length > 1 ? `${lane.numbers.length} bodies, ` : '';
+    made.append(element('span', `${bodies}level ${facts.tasks[lane.numbers[0]][3]}`, 'what'));
+  }
   return made;
 }
 
 function fold(core) {
   if (!folded.delete(core)) folded.add(core);
   layOut();
-  const place = lanes.filter((lane) => lane.shown && isHead(lane)).findIndex((lane) => lane.core === core);
+  const place = lanes.filter(isHead).findIndex((lane) => lane.core === core);
   byId('names').querySelectorAll('button')[place].focus({ preventScroll: true });
 }
 
@@ -472,16 +507,11 @@ const scale = () => (state.width - 2 * EDGE) / (view.to - view.from);
 const xOf = (tick) => EDGE + (tick - view.from) * scale();
 const tickAt = (x) => view.from + (x - EDGE) / scale();
 
-// Brings a tick into sight, in a lane.
-function reveal(tick, lane) {
-  if (lane) folded.delete(lane.core);
-  const span = Math.min(view.to - view.from, 120);
-  setView(tick - span / 2, tick + span / 2);
-  layOut();
-  if (!lane) return;
+// Scrolls a lane into sight.
+function scrollTo({ top, height }) {
   const box = byId('lanes');
-  const [top, bottom] = [lane.top - AXIS, lane.top + lane.height];
-  if (top < box.scrollTop || bottom > box.scrollTop + state.height) box.scrollTop = Math.max(0, top - state.height / 3);
+  if (top - AXIS < box.scrollTop) box.scrollTop = top - AXIS;
+  if (top + height > box.scrollTop + state.height) box.scrollTop = top + height - state.height * 0.6;
 }
 
 let settling = 0;
@@ -500,7 +530,7 @@ const canvas = byId('canvas');
 const context = canvas.getContext('2d', { alpha: false });
 // The colours of resources: those of Okabe and Ito, which the colour-blind tell apart, lightened for black letters.
 const HUES = ['#eebc4d', '#89cbf0', '#4dbb9d', '#f4ec7b', '#4d9cc9', '#e28e4d', '#dba1c1'];
-const FONT = '11px ui-monospace, monospace';
+const hueOf = (res) => HUES[res % HUES.length];
 const LETTER = 6.7;
 const palette = {};
 
@@ -511,43 +541,42 @@ function readPalette() {
   }
   const tile = Object.assign(document.createElement('canvas'), { width: 6, height: 6 });
   const pen = tile.getContext('2d');
-  pen.strokeStyle = palette.waits;
-  pen.lineWidth = 1.2;
-  pen.beginPath();
-  for (const shift of [-6, 0, 6]) { pen.moveTo(shift, 6); pen.lineTo(shift + 6, 0); }
-  pen.stroke();
+  Object.assign(pen, { strokeStyle: palette.waits, lineWidth: 1.2 });
+  pen.stroke(new Path2D('M-6 6l6-6m0 6l6-6m0 6l6-6'));
   palette.hatch = context.createPattern(tile, 'repeat');
 }
 
 function sizeCanvas() {
   const box = byId('lanes');
-  const ratio = window.devicePixelRatio || 1;
+  const ratio = state.isPaper ? 3 : window.devicePixelRatio || 1;
   state.width = Math.max(50, box.clientWidth - byId('names').offsetWidth);
-  const room = window.matchMedia('print').matches ? 0 : box.clientHeight;
-  state.height = Math.min(state.bottom, room || state.bottom);
-  canvas.width = Math.round(state.width * ratio);
-  canvas.height = Math.round(state.height * ratio);
-  canvas.style.width = `${state.width}px`;
+  state.height = Math.min(state.bottom, state.isPaper ? state.bottom : box.clientHeight);
+  Object.assign(canvas, { width: Math.round(state.width * ratio), height: Math.round(state.height * ratio) });
   canvas.style.height = `${state.height}px`;
   context.setTransform(ratio, 0, 0, ratio, 0, 0);
-  drawWholeMap();
+  drawMap();
   redraw();
 }
 
 function redraw() {
-  if (state.scheduled) return;
-  state.scheduled = true;
-  requestAnimationFrame(() => { state.scheduled = false; draw(); });
+  if (state.isScheduled) return;
+  state.isScheduled = true;
+  requestAnimationFrame(draw);
 }
 
 const drawn = { blocks: 0, arrows: 0 };
 
 function draw() {
   const scrolled = byId('lanes').scrollTop;
+  state.isScheduled = false;
   Object.assign(drawn, { blocks: 0, arrows: 0 });
-  context.fillStyle = palette.back;
+  Object.assign(context, { fillStyle: palette.back, font: '11px ui-monospace, monospace' });
   context.fillRect(0, 0, state.width, state.height);
-  drawGrid();
+  drawAxis();
+  context.save();
+  context.beginPath();
+  context.rect(0, AXIS, state.width, state.height);
+  context.clip();
   for (const lane of lanes) {
     const top = lane.top - scrolled;
     if (lane.shown && top + lane.height > 0 && top < state.height) drawLane(lane, top);
@@ -555,55 +584,46 @@ function draw() {
   if (facts.fault) drawFault(scrolled);
   drawLinks(scrolled);
   drawCursor(scrolled);
-  drawAxis();
-  drawMap();
+  context.restore();
+  const share = (ticks) => `${(100 * ticks) / facts.ticks}%`;
+  Object.assign(byId('window').style, { left: share(view.from), right: share(facts.ticks - view.to) });
   Object.assign(canvas.dataset, { blocks: drawn.blocks, arrows: drawn.arrows, from: view.from, to: view.to });
   if (!performance.getEntriesByName('shown').length) performance.mark('shown');
 }
 
-// The distance of the numbers of the axis, in ticks.
-function axisStep() {
-  const least = 90 / scale();
-  const power = 10 ** Math.floor(Math.log10(Math.max(1, least)));
-  return Math.max(1, [1, 2, 5, 10].map((times) => times * power).find((step) => step >= least));
-}
-
-function eachMark(visit) {
-  const step = axisStep();
-  const first = Math.ceil(view.from / step) * step;
-  for (let tick = first; tick <= view.to; tick += step) visit(tick, Math.round(xOf(tick)) + 0.5);
-}
-
-function drawGrid() {
-  context.strokeStyle = palette.line;
-  context.lineWidth = 1;
-  context.beginPath();
-  eachMark((_, x) => { context.moveTo(x, AXIS); context.lineTo(x, state.height); });
-  context.stroke();
+// The marks of the axis, in ticks: at round times, and not too close to one another.
+function axisMarks() {
+  const least = Math.max(1, Math.min(90, state.width / 4) / scale()) * tickLength;
+  const power = 10 ** Math.floor(Math.log10(least));
+  const step = [1, 2, 5, 10].map((times) => times * power).find((time) => time >= least) / tickLength;
+  const first = Math.ceil(view.from / step);
+  return Array.from({ length: Math.floor(view.to / step) - first + 1 }, (_, place) => (first + place) * step);
 }
 
 function drawAxis() {
-  context.fillStyle = palette.back;
-  context.fillRect(0, 0, state.width, AXIS);
-  context.strokeStyle = palette.line;
-  context.beginPath();
-  context.moveTo(0, AXIS - 0.5);
-  context.lineTo(state.width, AXIS - 0.5);
-  eachMark((_, x) => { context.moveTo(x, AXIS - 6); context.lineTo(x, AXIS); });
-  context.stroke();
+  const flag = facts.fault ? Math.round(xOf(faultTick)) - 2 : -99;
+  Object.assign(context, { fillStyle: palette.line, textAlign: 'left' });
+  context.fillRect(0, AXIS - 1, state.width, 1);
+  const marks = axisMarks();
+  for (const tick of marks) context.fillRect(Math.round(xOf(tick)), AXIS - 6, 1, state.height);
   context.fillStyle = palette.text;
-  context.font = FONT;
-  context.textAlign = 'left';
-  eachMark((tick, x) => context.fillText(timeText(tick), x + 3, 15));
-  if (!facts.fault || faultTick() < view.from || faultTick() >= view.to) return;
+  let free = 0;
+  for (const tick of marks) {
+    const wide = context.measureText(timeText(tick)).width;
+    const left = Math.min(xOf(tick) + 3, state.width - wide - 1);
+    if (left < free || (left < flag + 24 && left + wide > flag)) continue;
+    context.fillText(timeText(tick), left, 15);
+    free = left + wide + 6;
+  }
+  if (!facts.fault) return;
   context.fillStyle = palette.late;
-  context.fillRect(xOf(faultTick()) - 2, 2, 22, 18);
-  context.fillStyle = '#fff';
-  context.fillText(facts.fault[1], xOf(faultTick()) + 1, 15);
+  context.fillRect(flag, 2, 22, 18);
+  context.fillStyle = palette.back;
+  context.fillText(facts.fault[1], flag + 4, 15);
 }
 
 // A block, and its label where there is room for it.
-function drawBlock(block, top, height, fill, text, colour, counts = 1) {
+function drawBlock(block, top, height, fill, text, colour = palette.text, counts = 1) {
   const left = Math.max(-2, Math.round(xOf(block.first)));
   const width = Math.max(1, Math.min(state.width + 2, Math.round(xOf(block.end))) - left);
   context.globalAlpha = opacity(block);
@@ -615,7 +635,8 @@ function drawBlock(block, top, height, fill, text, colour, counts = 1) {
   }
   const room = Math.min(width, left + width) - 6;
   if (text && height >= 12 && text.length * LETTER <= room) {
-    context.fillStyle = colour || palette.text;
+    context.globalAlpha = Math.sqrt(opacity(block));
+    context.fillStyle = colour;
     context.fillText(text, Math.max(left, 0) + 3, top + Math.min(height, 16) - 4);
   }
   context.globalAlpha = 1;
@@ -625,8 +646,7 @@ function drawBlock(block, top, height, fill, text, colour, counts = 1) {
 // What isn't lit up is pale, and so is what follows the fault.
 function opacity(block) {
   const pale = block.legal ? 1 : 0.35;
-  if (!state.selected || block.look === CEILING) return pale;
-  return state.related.has(keyOf(block.task, block.job)) ? pale : pale * 0.25;
+  return !state.selected || block.look === CEILING || state.related.has(jobOf(block)) ? pale : pale * 0.25;
 }
 
 function drawLane(lane, top) {
@@ -636,133 +656,100 @@ function drawLane(lane, top) {
   }
   context.fillStyle = palette.line;
   context.fillRect(0, Math.round(top), state.width, 1);
-  context.font = FONT;
-  context.textAlign = 'left';
-  const least = 3 / scale();
-  const paint = (block) => PAINTERS[block.look](block, top, lane);
-  for (const track of lane.layers) track.visit(view.from, view.to, least, paint);
+  for (const track of lane.layers) {
+    for (const block of track.between(view.from, view.to, 3 / scale())) PAINTERS[block.look](block, top, lane);
+  }
   if (lane.what === 'task') drawArrows(lane, top);
 }
-
-const hueOf = (res) => HUES[res % HUES.length];
 
 // How each look is drawn in a lane.
 const PAINTERS = [
   (block, top) => drawBlock(block, top + 3, 18, palette.runs, taskName(block.task)),
-  (block, top) => {
+  (block, top, lane) => {
+    const label = `${lane.numbers.length > 1 ? `${suffixOf(block.task)} ` : ''}J${block.job}`;
     const waits = block.kind === QUEUE || block.kind === SPIN;
     const isWide = (block.end - block.first) * scale() > 3;
-    drawBlock(block, top + 16, 28, waits && !isWide ? palette.waits : palette.works, '');
-    if (waits && isWide) drawBlock(block, top + 16, 28, palette.hatch, '', '', 0);
-    drawJobNumber(block, top + 16);
+    drawBlock(block, top + 16, 28, waits && !isWide ? palette.waits : palette.works, waits ? '' : label);
+    if (waits && isWide) drawBlock(block, top + 16, 28, palette.hatch, label, palette.text, 0);
   },
-  (block, top, lane) => {
+  (block, top) => {
     if (scale() < 0.25) return;
-    const height = Math.max(4, Math.floor(14 / lane.depth));
+    const height = Math.max(4, Math.floor(14 / depths[block.task]));
     drawBlock(block, top + 30 + block.value * height, height, hueOf(block.res), resName(block.res), '#000');
   },
   (block, top) => {
-    const behind = block.value ? ` +${block.value}` : '';
-    drawBlock(block, top + 3, 18, hueOf(block.res), taskName(block.task) + behind, '#000');
+    const waiting = block.value ? ` +${block.value}` : '';
+    drawBlock(block, top + 3, 18, hueOf(block.res), taskName(block.task) + waiting, '#000');
   },
   (block, top) => drawBlock(block, top + 13, 2, palette.life, ''),
   (block, top) => drawBlock(block, top + 45, 4, palette.late, ''),
   (block, top) => drawBlock(block, top + 1, 13, palette.ceiling, String(block.value)),
 ];
 
-// The number of the job, in the first of its blocks that stand side by side.
-function drawJobNumber(block, top) {
-  const text = `J${block.job}`;
-  const room = xOf(block.end) - Math.max(0, xOf(block.first));
-  if (text.length * LETTER + 4 > room) return;
-  context.globalAlpha = opacity(block);
-  context.fillStyle = palette.text;
-  context.fillText(text, Math.max(0, xOf(block.first)) + 3, top + 12);
-  context.globalAlpha = 1;
-}
-
-// The arrows of releases and deadlines, and the marks of completions. Where they are too close, some are left out.
-function drawArrows(lane, top) {
-  const [last, marks, all] = [[-9, -9, -9], [[], []], jobs[lane.number]];
-  const inSight = all.slice(firstJob(all), firstLater(all));
-  if (inSight.length > state.width / 24) return;
-  for (const { task, number, release, deadline, end, finished } of inSight) {
-    const lit = !state.selected || state.related.has(keyOf(task, number));
-    [release, deadline, finished ? end : -1].forEach((tick, moment) => {
-      const x = xOf(tick);
-      if (tick < view.from || tick > Math.min(view.to, facts.ticks) || x - last[moment] < 7) return;
-      last[moment] = x;
-      marks[lit ? 1 : 0].push([moment, x]);
-    });
-  }
-  context.strokeStyle = palette.text;
-  marks.forEach((some, lit) => {
-    context.globalAlpha = lit ? 1 : 0.25;
-    drawMarks(context, some, top);
-    drawn.arrows += some.length;
-  });
-  context.globalAlpha = 1;
-}
-
-// The place of the first job of which this holds, as of all after it.
-function firstOf(all, holds) {
-  let [low, high] = [0, all.length];
-  while (low < high) {
-    const middle = (low + high) >> 1;
-    if (holds(all[middle])) high = middle; else low = middle + 1;
-  }
-  return low;
-}
-
+// A release, an absolute deadline and a completion, by their foot.
+const MARKS = ['M0 0v-13m-3 4l3-4l3 4', 'M0-13v13m-3-4l3 4l3-4', 'M0 0v-6m-4 0h8'].map((shape) => new Path2D(shape));
 const firstJob = (all) => firstOf(all, (job) => Math.max(job.deadline, job.end) >= view.from);
 const firstLater = (all) => firstOf(all, (job) => job.release > view.to);
 
-function drawMarks(pen, marks, top) {
-  const [low, high] = [top + 15, top + 2];
-  pen.lineWidth = 1.3;
-  pen.beginPath();
-  for (const [moment, x] of marks) {
-    pen.moveTo(x, low);
-    pen.lineTo(x, moment === COMPLETION ? low - 6 : high);
-    if (moment === COMPLETION) { pen.moveTo(x - 4, low - 6); pen.lineTo(x + 4, low - 6); continue; }
-    const [tip, tail] = moment === RELEASE ? [high, high + 4] : [low, low - 4];
-    pen.moveTo(x - 3, tail); pen.lineTo(x, tip); pen.lineTo(x + 3, tail);
+// The arrows of releases and deadlines, and the marks of completions. Where they are too close, some are left out.
+function drawArrows(lane, top) {
+  const [last, paths] = [[-9, -9, -9], [new Path2D(), new Path2D()]];
+  const inSight = lane.jobs.slice(firstJob(lane.jobs), firstLater(lane.jobs));
+  if (inSight.length > state.width / 20) return;
+  for (const job of inSight) {
+    const path = paths[!state.selected || state.related.has(job) ? 1 : 0];
+    [job.release, job.deadline, job.finished ? job.end : -1].forEach((tick, moment) => {
+      const x = xOf(tick);
+      if (tick < view.from || tick > Math.min(view.to, facts.ticks) || x - last[moment] < 7) return;
+      last[moment] = x;
+      path.addPath(MARKS[moment], { e: x, f: top + 15 });
+      drawn.arrows += 1;
+    });
   }
-  pen.stroke();
+  Object.assign(context, { strokeStyle: palette.text, lineWidth: 1.3, globalAlpha: 0.25 });
+  context.stroke(paths[0]);
+  context.globalAlpha = 1;
+  context.stroke(paths[1]);
 }
 
-// The lane of the row that violates a rule.
+// The lane of the row that violates a rule, or of a core that lacks a row.
 function faultLane() {
-  if (!facts.broken) return lanes[0];
-  const [, core, , task] = facts.broken;
-  return (task && taskLane(task - 1)) || lanes.find((lane) => lane.what === 'core' && lane.number === core) || lanes[0];
+  const [, core, , task] = facts.broken || [];
+  const isFaulty = (lane) => (facts.broken ? lane.core === core : !rowNumber(faultTick, lane.core));
+  return (task && taskLane(task - 1)) || lanes.filter(({ what }) => what === 'core').find(isFaulty) || lanes[0];
+}
+
+// A frame around some ticks of a lane.
+function drawFrame(lane, scrolled, first, end, colour) {
+  if (!lane.shown) return;
+  const left = Math.max(1, xOf(first));
+  const width = Math.max(6, Math.min(state.width - 1, xOf(end)) - left);
+  Object.assign(context, { strokeStyle: colour, lineWidth: 2 });
+  context.strokeRect(left, lane.top - scrolled + 1, width, lane.height - 2);
 }
 
 function drawFault(scrolled) {
-  const [left, width] = [xOf(faultTick()), Math.max(3, scale())];
-  context.fillStyle = palette.late;
-  context.globalAlpha = 0.16;
-  context.fillRect(left, AXIS, width, state.height);
+  Object.assign(context, { fillStyle: palette.late, globalAlpha: 0.16 });
+  context.fillRect(xOf(faultTick), AXIS, Math.max(3, scale()), state.height);
   context.globalAlpha = 1;
-  const lane = faultLane();
-  if (!lane.shown) return;
-  context.strokeStyle = palette.late;
-  context.lineWidth = 3;
-  context.strokeRect(left, lane.top - scrolled + 2, Math.max(width, 8), lane.height - 4);
+  drawFrame(faultLane(), scrolled, faultTick, faultTick + 1, palette.late);
+}
+
+function drawCursor(scrolled) {
+  if (!state.cursor) return;
+  const { lane, tick } = state.cursor;
+  const { first, end } = blockAt(lane, tick) || { first: tick, end: tick + 1 };
+  if (lane !== faultLane() || tick !== faultTick) drawFrame(lane, scrolled, first, end, palette.focus);
 }
 
 // A line from each wait of the chosen job to the job that was first in the queue.
 function drawLinks(scrolled) {
-  if (!state.selected) return;
-  const own = taskLane(state.selected.task);
-  context.strokeStyle = palette.focus;
-  context.lineWidth = 1.5;
+  Object.assign(context, { strokeStyle: palette.focus, lineWidth: 1.5 });
   context.setLineDash([5, 3]);
   for (const link of state.links) {
-    const other = taskLane(link.task);
+    const [own, other] = [taskLane(state.selected.task), taskLane(link.task)];
     if (!own.shown || !other.shown) continue;
-    const [from, to] = [own.top - scrolled + 30, other.top - scrolled + 30];
-    const x = xOf(link.first);
+    const [x, from, to] = [xOf(link.first), own.top - scrolled + 30, other.top - scrolled + 30];
     context.beginPath();
     context.moveTo(x, from);
     context.bezierCurveTo(x - 14, from, x - 14, to, x, to);
@@ -772,89 +759,59 @@ function drawLinks(scrolled) {
   context.setLineDash([]);
 }
 
-function drawCursor(scrolled) {
-  if (!state.cursor || !state.cursor.lane.shown) return;
-  const { lane, tick } = state.cursor;
-  const block = blockAt(lane, tick) || { first: tick, end: tick + 1 };
-  context.strokeStyle = palette.focus;
-  context.lineWidth = 2;
-  const left = Math.max(1, xOf(block.first));
-  const width = Math.max(3, Math.min(state.width - 1, xOf(block.end)) - left);
-  context.strokeRect(left, lane.top - scrolled + 1, width, lane.height - 2);
-}
-
 // ---- the small map of the whole run
 
 const map = byId('map');
-let wholeMap = null;
 
-function drawWholeMap() {
+function drawMap() {
   const [width, height] = [Math.max(50, map.clientWidth), 44];
   Object.assign(map, { width, height });
-  wholeMap = Object.assign(document.createElement('canvas'), { width, height });
-  const pen = wholeMap.getContext('2d');
+  const pen = map.getContext('2d');
   const [across, strip] = [width / facts.ticks, (height - 6) / facts.cores];
   const fill = (from, to, top, thick) => pen.fillRect(from * across, top, Math.max(1.5, (to - from) * across), thick);
   for (let core = 0; core < facts.cores; core++) {
     pen.fillStyle = palette.runs;
-    for (const legal of [true, false]) {
+    for (const { first, end, legal } of trackOf(RUNS, core).between(0, facts.ticks, 1 / across)) {
       pen.globalAlpha = legal ? 1 : 0.35;
-      const paint = ({ first, end }) => fill(first, end, core * strip + 1, strip - 1);
-      trackOf(RUNS, core, legal).visit(0, facts.ticks, 1 / across, paint);
+      fill(first, end, core * strip + 1, strip - 1);
     }
   }
-  pen.globalAlpha = 1;
-  pen.fillStyle = palette.late;
+  Object.assign(pen, { globalAlpha: 1, fillStyle: palette.late });
   for (const job of lateJobs) fill(job.deadline, job.end, height - 5, 5);
-  if (facts.fault) pen.fillRect(faultTick() * across - 1, 0, 3, height);
-}
-
-function drawMap() {
-  const pen = map.getContext('2d');
-  const across = map.width / facts.ticks;
-  pen.clearRect(0, 0, map.width, map.height);
-  pen.drawImage(wholeMap, 0, 0);
-  pen.strokeStyle = palette.focus;
-  pen.lineWidth = 2;
-  pen.strokeRect(view.from * across + 1, 1, Math.max(3, (view.to - view.from) * across - 2), map.height - 2);
+  if (facts.fault) pen.fillRect(faultTick * across - 1, 0, 3, height);
 }
 
 // ---- lighting up a job
 
 // What the job waited for: who was first in the queue meanwhile, by resource.
-function linksOf(job) {
-  return allWaits.filter((wait) => wait.task === job.task && wait.job === job.number).flatMap((wait) => {
-    const links = [];
-    trackOf(FIRST, wait.res, true).visit(wait.first, wait.end, 1, ({ task, job: number, first, end }) => {
-      if (task === job.task && number === job.number) return;
-      const [from, to] = [Math.max(first, wait.first), Math.min(end, wait.end)];
-      links.push({ task, job: number, res: wait.res, first: from, end: to });
-    });
-    return links;
+function linksOf({ task, number }) {
+  return allWaits.filter((wait) => wait.task === task && wait.job === number).flatMap((wait) => {
+    const found = [...trackOf(FIRST, wait.res).between(wait.first, wait.end)];
+    const others = found.filter((block) => block.task !== task || block.job !== number);
+    return others.map((block) => (
+      { ...block, first: Math.max(block.first, wait.first), end: Math.min(block.end, wait.end) }));
   });
 }
 
-function select(job) {
-  state.selected = job;
-  state.links = job ? linksOf(job) : [];
-  state.related = new Set(state.links.map((link) => keyOf(link.task, link.job)));
-  if (job) state.related.add(keyOf(job.task, job.number));
+// Lights up a job, or none, at a place.
+function select(job, cursor) {
+  const links = job ? linksOf(job) : [];
+  Object.assign(state, { selected: job, cursor, links, related: new Set([job, ...links.map(jobOf)]) });
   layOut();
 }
 
 // Says what is known of a place, and of the job that is lit up there.
 function say(text, job) {
   const detail = byId('detail');
-  detail.replaceChildren(document.createTextNode(text));
+  detail.replaceChildren(text);
   if (!job) return;
-  const requests = trackOf(HOLDS, job.task, true).blocks.filter((block) => block.job === job.number);
-  const held = requests.map((block) => `${resName(block.res)} (${timeText(block.first)} to ${timeText(block.end)})`);
-  detail.append(`\nHeld: ${held.length ? held.slice(0, 20).join(', ') : 'nothing'}.`);
+  const requests = trackOf(HOLDS, job.task).blocks.filter((block) => block.job === job.number);
+  const spanOf = ({ res, first, end }) => `${resName(res)}, ${timeText(first)} to ${timeText(end)}`;
+  detail.append(`\nHeld: ${requests.slice(0, 20).map(spanOf).join('; ') || 'nothing'}.`);
   detail.append(state.links.length ? ' Waited for: ' : ' It waited for no job.');
   state.links.slice(0, 20).forEach((link, place) => {
-    const span = `${timeText(link.first)} to ${timeText(link.end)}`;
-    const words = `${jobText(link.task, link.job)} (${resName(link.res)}, ${span})`;
-    detail.append(place ? ', ' : '', linkButton(words, () => showJob(jobOf(link.task, link.job), link.first)));
+    const words = `${jobText(link)} (${spanOf(link)})`;
+    detail.append(place ? ', ' : '', linkButton(words, () => showJob(jobOf(link), link.first)));
   });
 }
 
@@ -864,32 +821,22 @@ function linkButton(words, act) {
   return button;
 }
 
-// Lights up a job, and shows it at a tick.
-function showJob(job, at = job.release) {
-  const tick = Math.min(at, facts.ticks - 1);
-  select(job);
-  const lane = taskLane(job.task);
-  state.cursor = { lane, tick };
-  reveal(tick, lane);
-  say(describe(lane, tick), job);
-}
-
-function showTick(tick) {
+// Shows a tick in a lane, and lights up a job there.
+function show(tick, lane, job = null, text = null) {
   const at = Math.min(Math.max(0, tick), facts.ticks - 1);
-  select(null);
-  state.cursor = { lane: state.cursor ? state.cursor.lane : lanes[0], tick: at };
-  reveal(at, null);
-  say(describe(state.cursor.lane, at));
+  const span = Math.min(view.to - view.from, 120);
+  folded.delete(lane.core);
+  setView(at - span / 2, at + span / 2);
+  select(job, { lane, tick: at });
+  scrollTo(lane);
+  say(text || describe(lane, at), job);
 }
 
-function showFault() {
-  if (!facts.fault) return;
-  const lane = faultLane();
-  select(null);
-  state.cursor = { lane, tick: faultTick() };
-  reveal(faultTick(), lane);
-  say(`${facts.why.split('\n').slice(1, 4).join('\n')}`);
-}
+const laneInSight = () => lanes.find(({ shown, top }) => shown && top >= byId('lanes').scrollTop + AXIS);
+const showTick = (tick) => show(tick, state.cursor ? state.cursor.lane : laneInSight());
+const showJob = (job, at = job.release) => show(at, taskLane(job.task), job);
+const showFault = () => facts.fault && show(faultTick, faultLane(), null, facts.why.split('\n').slice(1, 4).join('\n'));
+const showLongestWait = () => longestWait && showJob(jobOf(longestWait), longestWait.first);
 
 function showNextLate() {
   if (!lateJobs.length) return;
@@ -897,42 +844,38 @@ function showNextLate() {
   showJob(lateJobs[state.late], lateJobs[state.late].deadline);
 }
 
-function showLongestWait() {
-  if (longestWait) showJob(jobOf(longestWait.task, longestWait.job), longestWait.first);
-}
-
 // The lane and the tick at a place of the canvas.
 function placeAt(event) {
   const box = canvas.getBoundingClientRect();
-  const [x, y] = [event.clientX - box.left, event.clientY - box.top];
+  const [tick, y] = [Math.floor(tickAt(event.clientX - box.left)), event.clientY - box.top];
   const height = y + byId('lanes').scrollTop;
-  const tick = Math.floor(tickAt(x));
   if (y < AXIS || tick < 0 || tick >= facts.ticks) return null;
   const lane = lanes.find(({ shown, top, height: high }) => shown && top <= height && height < top + high);
   return lane ? { lane, tick } : null;
 }
 
 function choose(place) {
-  state.cursor = place;
   const block = place && place.lane.what !== 'ceiling' ? blockAt(place.lane, place.tick) : null;
-  const job = block ? jobOf(block.task, block.job) || null : null;
-  select(job);
+  const job = (block && jobOf(block)) || null;
+  select(job, place);
   say(place ? describe(place.lane, place.tick) : '', job);
 }
 
 // ---- head, report, legend and table
 
-function element(name, text, className = '') {
+// An element with texts and elements in it.
+function element(name, content = '', className = '') {
   const made = document.createElement(name);
-  made.textContent = text;
-  if (className) made.className = className;
+  made.append(...[content].flat());
+  made.className = className;
   return made;
 }
 
 function verdictText() {
   if (!facts.fault) return `A legal run: all ${plural(legalRows, 'row')} obey the plan`;
   const [row, rule] = facts.fault;
-  return `Not a legal run: ${facts.broken ? `row ${row}` : `the trace after row ${row - 1}`} violates rule ${rule}`;
+  const where = facts.broken ? `row ${row}` : `its end after ${plural(row - 1, 'row')}`;
+  return `Not a legal run: ${where} violates rule ${rule}`;
 }
 
 function writeHead() {
@@ -953,7 +896,7 @@ function writeHead() {
 
 // A line of the reasons, in which rows, ticks and jobs are links into the picture.
 function whyLine(text) {
-  const line = element('p', '', text.startsWith('not exercised') ? 'missed' : '');
+  const line = element('div', '', text.startsWith('not exercised') ? 'missed' : '');
   const pattern = /\b(?:row (\d+)|tick (\d+)|([A-Za-z_][A-Za-z_0-9]*),(\d+)(?=[,\s)]|$))/g;
   let end = 0;
   for (const found of text.matchAll(pattern)) {
@@ -970,56 +913,43 @@ function whyTarget([, row, tick, name, number]) {
   if (row && facts.fault && Number(row) === facts.fault[0]) return showFault;
   if (row) return () => showTick(Math.floor((row - 1) / facts.cores));
   if (tick) return () => showTick(Number(tick));
-  const job = jobOf(facts.tasks.findIndex((task) => task[0] === name), Number(number));
+  const job = jobOf({ task: facts.tasks.findIndex((task) => task[0] === name), job: number });
   return job ? () => showJob(job) : null;
 }
 
 // The rows that belong to later jobs of a job's core while it is released and unfinished.
 function blockedRows(job) {
   const before = (a, b) => a.deadline - b.deadline || a.release - b.release || a.task - b.task || a.number - b.number;
-  let rows = 0;
-  trackOf(RUNS, facts.tasks[job.task][1], true).visit(job.release, job.end, 1, (block) => {
-    const other = jobOf(block.task, block.job);
-    if (other && before(job, other) < 0) rows += Math.min(block.end, job.end) - Math.max(block.first, job.release);
-  });
-  return rows;
+  const runs = [...trackOf(RUNS, facts.tasks[job.task][1]).between(job.release, job.end)];
+  const later = runs.filter((block) => block.legal && jobOf(block) && before(job, jobOf(block)) < 0);
+  return later.reduce((rows, { first, end }) => rows + Math.min(end, job.end) - Math.max(first, job.release), 0);
 }
 
 // A bar of what was observed beside what it is compared with; it leads to the job.
 function bar(name, observed, bound, job) {
-  const button = element('button', '', 'bar');
-  const share = (value) => `${Math.min(100, (100 * value) / Math.max(1, observed, bound))}%`;
-  const [fill, over] = [element('span', '', 'fill'), element('span', '', 'over')];
-  fill.style.width = share(observed);
-  over.style.left = share(bound);
-  over.style.width = share(Math.max(0, observed - bound));
-  button.append(fill, over, element('span', `${timeText(observed)} of ${timeText(bound)}`, 'said'));
+  const button = linkButton(`${timeText(observed)} of ${timeText(bound)}`, () => { showJob(job); canvas.focus(); });
+  const share = (value) => `${(100 * value) / Math.max(1, observed, bound)}%`;
+  Object.assign(button, { className: 'bar', disabled: !job });
+  button.style.setProperty('--observed', share(observed));
+  button.style.setProperty('--bound', share(bound));
   button.setAttribute('aria-label', `${name}: ${observed} of ${bound} ticks`);
-  button.disabled = !job;
-  if (job) button.addEventListener('click', () => { showJob(job); canvas.focus(); });
   return button;
 }
 
-function reportRow(task, number) {
-  const [count, finished, late, worst, , spin, , blocked, spinBound, blockedBound] = facts.report[number];
-  const own = jobs[number];
-  const wait = allWaits.find((one) => one.task === number && one.spins === spin);
-  const blockedJob = blocked ? own.find((job) => blockedRows(job) === blocked) : null;
-  const lateOnes = own.filter(isLate);
-  const lateCount = facts.fault ? lateOnes.length : late;
-  const cells = [
-    element('th', task[0]), element('td', task[1], 'number'), element('td', `${finished} of ${count}`, 'number'),
-    element('td', lateOnes.length ? '' : lateCount, lateCount ? 'number late' : 'number'),
-    element('td', ''), element('td', ''), element('td', ''),
+function reportRow([name, core, deadline], task) {
+  const [count, finished, , worst, , spin, , blocked, spinBound, blockedBound] = facts.report[task];
+  const own = jobs[task];
+  const late = own.filter(isLate);
+  const wait = allWaits.find((one) => one.task === task && one.spins === spin);
+  const numbers = [core, `${finished} of ${count}`, late.length || '0'];
+  if (late.length) numbers[2] = linkButton(late.length, () => showJob(late[0], late[0].deadline));
+  const bars = [
+    bar(`${name}, worst response`, worst, deadline, own.find((job) => worst && response(job) === worst)),
+    bar(`${name}, longest spin`, spin, spinBound, spin && wait && own[wait.job]),
+    bar(`${name}, longest blocking`, blocked, blockedBound, own.find((job) => blocked && blockedRows(job) === blocked)),
   ];
-  if (lateOnes.length) cells[3].append(linkButton(lateCount, () => showJob(lateOnes[0], lateOnes[0].deadline)));
-  const slowest = worst ? own.find((job) => response(job) === worst) : null;
-  cells[4].append(bar(`${task[0]}, worst response`, worst, task[2], slowest));
-  cells[5].append(bar(`${task[0]}, longest spin`, spin, spinBound, spin && wait ? own[wait.job] : null));
-  cells[6].append(bar(`${task[0]}, longest blocking`, blocked, blockedBound, blockedJob));
-  const row = document.createElement('tr');
-  row.append(...cells);
-  return row;
+  const cells = [...numbers.map((cell) => element('td', cell, 'number')), ...bars.map((cell) => element('td', cell))];
+  return element('tr', [element('th', name), ...cells]);
 }
 
 function writeReport() {
@@ -1030,28 +960,22 @@ function writeReport() {
 
 // The rows in sight, at most 240, as a table.
 function writeTable() {
-  const table = document.createElement('table');
-  const line = (cells, kind) => {
-    const row = document.createElement('tr');
-    row.append(...cells.map((cell) => element(kind, String(cell))));
-    table.append(row);
-  };
-  line(['Tick', ...(facts.unit ? ['Time'] : []), 'Core', 'Kind', 'Job', 'Resource', 'Row', 'Line'], 'th');
+  const head = ['Tick', ...(facts.unit ? ['Time'] : []), 'Core', 'Kind', 'Job', 'Resource', 'Row', 'Line'];
   const to = Math.min(Math.ceil(view.to), Math.floor(view.from) + Math.floor(240 / facts.cores), begun);
-  for (let tick = Math.floor(view.from); tick < to; tick++) {
-    for (let core = 0; core < facts.cores; core++) {
-      const row = rowNumber(tick, core);
-      if (row && row <= legalRows) line(rowCells(tick, core, row), 'td');
-    }
+  const rows = [element('tr', head.map((cell) => element('th', cell)))];
+  for (let place = Math.floor(view.from) * facts.cores; place < to * facts.cores; place++) {
+    const [tick, core] = [Math.floor(place / facts.cores), place % facts.cores];
+    const row = rowNumber(tick, core);
+    if (row && row <= legalRows) rows.push(element('tr', rowCells(tick, core, row).map((cell) => element('td', cell))));
   }
-  byId('table').replaceChildren(table);
+  byId('table').replaceChildren(...rows);
 }
 
 function rowCells(tick, core, row) {
-  const runs = trackOf(RUNS, core, true).at(tick);
-  const deed = runs && trackOf(DOES, runs.task, true).at(tick);
-  const [job, res] = [runs ? jobText(runs.task, runs.job) : '-', deed && deed.res >= 0 ? resName(deed.res) : '-'];
+  const [runs] = [...trackOf(RUNS, core).between(tick, tick + 1)].filter(({ legal }) => legal);
+  const deed = runs && trackOf(DOES, runs.task).at(tick);
   const time = facts.unit ? [timeText(tick)] : [];
+  const [job, res] = [runs ? jobText(runs) : '-', deed && deed.res >= 0 ? resName(deed.res) : '-'];
   return [tick, ...time, core, KINDS[deed ? deed.kind : 0], job, res, row, lineNumber(row) || '-'];
 }
 
@@ -1074,7 +998,7 @@ let moved = 0;
 function pointerDown(event) {
   canvas.setPointerCapture(event.pointerId);
   pointers.set(event.pointerId, event);
-  moved = 0;
+  moved = pointers.size > 1 ? Infinity : 0;
   byId('tip').hidden = true;
 }
 
@@ -1098,35 +1022,31 @@ function pointerUp(event) {
   if (pointers.delete(event.pointerId) && moved <= 3 && event.type === 'pointerup') choose(placeAt(event));
 }
 
+// Browsers report two fingers on a touchpad as a wheel with the control key, in small steps.
 function wheel(event) {
   event.preventDefault();
   const { deltaX, deltaY } = event;
   if (event.shiftKey || Math.abs(deltaX) > Math.abs(deltaY)) return pan((deltaX || deltaY) / scale());
   const around = tickAt(event.clientX - canvas.getBoundingClientRect().left);
-  zoom(Math.exp(Math.max(-1, Math.min(1, deltaY / 300))), around);
+  zoom(Math.exp(Math.max(-1, Math.min(1, deltaY / (event.ctrlKey ? 60 : 300)))), around);
 }
 
 // The next place in a lane, to the right or to the left: where a block begins.
-function nextTick(lane, tick, step) {
-  const look = { core: RUNS, ceiling: CEILING, task: DOES, queue: FIRST }[lane.what];
-  if (look === undefined) return tick;
-  const blocks = [true, false].flatMap((legal) => trackOf(look, lane.number, legal).blocks);
-  const begins = blocks.map(({ first }) => first).sort((a, b) => a - b);
-  const next = step > 0 ? begins.find((first) => first > tick) : begins.filter((first) => first < tick).pop();
-  return next === undefined ? tick : next;
+function nextTick({ what, numbers }, tick, step) {
+  const blocks = POINTED[what].slice(0, 1).flatMap((look) => numbers.flatMap((number) => trackOf(look, number).blocks));
+  const begins = blocks.map(({ first }) => first).filter((first) => (first - tick) * step > 0);
+  return begins.length ? begins.reduce((a, b) => ((a - b) * step < 0 ? a : b)) : tick;
 }
 
 function moveCursor(across, down) {
-  const shown = lanes.filter(({ shown: is }) => is);
-  const cursor = state.cursor || { lane: shown[0], tick: Math.floor(view.from) };
+  const shown = lanes.filter((lane) => lane.shown);
+  const cursor = state.cursor || { lane: laneInSight(), tick: Math.floor(view.from) };
   const place = Math.min(Math.max(0, shown.indexOf(cursor.lane) + down), shown.length - 1);
-  const lane = shown[place] || shown[0];
+  const lane = shown[place];
   const tick = across ? nextTick(lane, cursor.tick, across) : cursor.tick;
   state.cursor = { lane, tick };
   if (tick < view.from || tick >= view.to) pan(tick - (view.from + view.to) / 2);
-  const box = byId('lanes');
-  if (lane.top < box.scrollTop + AXIS) box.scrollTop = lane.top - AXIS;
-  if (lane.top + lane.height > box.scrollTop + state.height) box.scrollTop = lane.top + lane.height - state.height;
+  scrollTo(lane);
   say(describe(lane, tick));
   redraw();
 }
@@ -1137,7 +1057,7 @@ const KEYS = {
   ArrowDown: () => moveCursor(0, 1), ArrowUp: () => moveCursor(0, -1),
   PageDown: () => pan((view.to - view.from) * 0.8), PageUp: () => pan((view.from - view.to) * 0.8),
   Home: () => pan(-facts.ticks), End: () => pan(facts.ticks),
-  Enter: () => choose(state.cursor), Escape: () => { select(null); state.cursor = null; say(''); },
+  Enter: () => choose(state.cursor), Escape: () => choose(null),
   f: showFault, l: showNextLate, w: showLongestWait,
 };
 
@@ -1155,32 +1075,43 @@ function mapMove(event) {
   setView(tick - half, tick + half);
 }
 
+function goToTick(event) {
+  event.preventDefault();
+  const tick = Number.parseInt(byId('tick').value, 10);
+  if (tick >= 0) showTick(tick);
+}
+
+function joinLanes() {
+  lanes = makeLanes();
+  choose(null);
+}
+
 function listen() {
-  for (const button of document.querySelectorAll('[data-key]')) {
-    button.addEventListener('click', () => KEYS[button.dataset.key]());
-  }
+  const on = (target, names, act) => {
+    for (const name of names.split(' ')) target.addEventListener(name, act, { passive: false });
+  };
+  for (const button of document.querySelectorAll('[data-key]')) on(button, 'click', () => KEYS[button.dataset.key]());
   byId('to-fault').disabled = !facts.fault;
   byId('to-late').disabled = !lateJobs.length;
   byId('to-wait').disabled = !longestWait;
-  byId('to-tick').addEventListener('submit', (event) => {
-    event.preventDefault();
-    const tick = Number.parseInt(byId('tick').value, 10);
-    if (tick >= 0) showTick(tick);
-  });
-  byId('hide').addEventListener('change', layOut);
-  byId('rows').addEventListener('toggle', settleSoon);
-  byId('lanes').addEventListener('scroll', redraw);
-  for (const name of ['pointerdown', 'pointermove']) map.addEventListener(name, mapMove);
-  canvas.addEventListener('pointerdown', pointerDown);
-  canvas.addEventListener('pointermove', pointerMove);
-  for (const name of ['pointerup', 'pointercancel']) canvas.addEventListener(name, pointerUp);
-  canvas.addEventListener('pointerleave', () => { byId('tip').hidden = true; });
-  canvas.addEventListener('wheel', wheel, { passive: false });
-  canvas.addEventListener('keydown', keyDown);
-  window.addEventListener('resize', layOut);
-  for (const query of ['print', '(prefers-color-scheme: dark)']) {
-    window.matchMedia(query).addEventListener('change', recolour);
-  }
+  byId('join').parentElement.hidden = groups.length === facts.tasks.length;
+  on(byId('to-tick'), 'submit', goToTick);
+  on(byId('hide'), 'change', layOut);
+  on(byId('join'), 'change', joinLanes);
+  on(byId('rows'), 'toggle', settleSoon);
+  on(byId('lanes'), 'scroll', redraw);
+  on(map, 'pointerdown pointermove', mapMove);
+  on(canvas, 'pointerdown', pointerDown);
+  on(canvas, 'pointermove', pointerMove);
+  on(canvas, 'pointerup pointercancel', pointerUp);
+  on(canvas, 'pointerleave', () => { byId('tip').hidden = true; });
+  on(canvas, 'wheel', wheel);
+  on(canvas, 'keydown', keyDown);
+  on(window, 'resize', layOut);
+  on(window, 'beforeprint', () => toPaper(true));
+  on(window, 'afterprint', () => toPaper(false));
+  on(window.matchMedia('print'), 'change', ({ matches }) => toPaper(matches));
+  on(window.matchMedia('(prefers-color-scheme: dark)'), 'change', recolour);
 }
 
 function recolour() {
@@ -1188,9 +1119,21 @@ function recolour() {
   layOut();
 }
 
+// On paper the page is light and as wide as a sheet, and has the reasons and the rows in sight.
+function toPaper(isPaper) {
+  if (isPaper === state.isPaper) return;
+  const parts = ['reasons', 'rows'].map(byId);
+  if (isPaper) state.open = parts.map(({ open }) => open);
+  parts.forEach((part, place) => { part.open = isPaper || state.open[place]; });
+  state.isPaper = isPaper;
+  document.documentElement.classList.toggle('paper', isPaper);
+  writeTable();
+  recolour();
+  draw();
+}
+
 // At first a short run is in sight as a whole, else its beginning, and in any case the fault.
 function start() {
-  markDepths();
   writeHead();
   writeReport();
   listen();
