@@ -2,7 +2,6 @@
 use Rattle.std.proofs.Common.{◌≡◌, ◌∙◌, ◌+◌, ◌≤◌, ◌∷◌, ◌++◌}
 use Rattle.msrp_plan.proofs.Common.{[], ℕ, Bool, true, false, List, Option, None, Some, PlanModel, Result, Ok, Err, refl, length, drop, take, ap, arith, sym, inl, inr, length-drop, slice_index_or, cases_lt, drop_more, take_all, take_more}
 use Rattle.msrp_plan.specs.declared.rows.Row.{Row}
-use Rattle.msrp_plan.specs.declared.traces.Trace.{Trace}
 use Rattle.msrp_text.specs.Reading.{Answers as TextAnswers}
 use Rattle.msrp_text.specs.declared.reading.TextError.{TextError}
 use Rattle.msrp_trace.specs.Reading.{Told}
@@ -12,6 +11,7 @@ use Rattle.msrp_engine.specs.Answered.{OrUnread}
 use Rattle.msrp_faults.specs.Outcomes.{trace_fault_of}
 use Rattle.msrp_faults.specs.declared.faults.CliFault.{CliFault}
 use Rattle.msrp_view_engine.specs.Answers.{rows_in, rows_or, rows_read}
+use Rattle.msrp_view_engine.specs.declared.view.Gathered.{Gathered}
 
 -- at the end all rows were read
 pub all-read : (told : Told) (rows : List Row) (left after : Option Told) (result : Result (Option Row) TraceError)
@@ -21,7 +21,7 @@ all-read told rows left after result is next e =
     sym (ap (rows_or told.rows) whole.1 ∙ ap (λ xs. Ok xs) whole.0)
 
 -- an error of the reader is a read that failed, want of memory, or the refusal
-pub error-read : (told : Told) (error : TraceError) (answer : Result Trace CliFault) (due : Type 0) → IsError error due → (due → told.refusal ≡ Some error) → answer ≡ Err (trace_fault_of error)
+pub error-read : (told : Told) (error : TraceError) (answer : Result Gathered CliFault) (due : Type 0) → IsError error due → (due → told.refusal ≡ Some error) → answer ≡ Err (trace_fault_of error)
     → OrUnread answer (rows_in answer ≡ rows_read told)
 error-read told error answer due h refused gives = elim h [
   | inl same ↦ inl (gives ∙ ap (λ x. Err (trace_fault_of x)) same)

@@ -132,7 +132,6 @@ fn deadline_of(plan: &Plan, job: Option<JobId>, finished: bool) -> Option<u64>
     }
 }
 
-// The preemption level of a job.
 fn level_of(plan: &Plan, levels: &Levels<'_>, job: Option<JobId>) -> Option<u64>
     requires { levels.now ≡ plan.now }
     ensures { ForSome job (λ j. j.task.0 < length plan.now.tasks) → result ≡ option_map (λ j. level plan.now j.task.0) job }
@@ -143,7 +142,6 @@ fn level_of(plan: &Plan, levels: &Levels<'_>, job: Option<JobId>) -> Option<u64>
     }
 }
 
-// Whether another job runs.
 fn is_other(running: Option<JobId>, job: Option<JobId>) -> bool
     ensures { result ≡ is_other running job }
 {

@@ -3,7 +3,7 @@ use Rattle.msrp_plan.proofs.Common.{rules, Err, ap}
 use Rattle.msrp_engine.specs.MadeTexts.{found_in}
 use Rattle.msrp_view_engine.specs.Answers.{verdict_on}
 use Rattle.msrp_view_engine.proofs.Answering.{err-unread}
-use Rattle.msrp_view_engine.proofs.page.page_of_text.Goals as goal
+use Rattle.msrp_view_engine.proofs.view.page_of_text.Goals as goal
 
 pub returns-in_err-trace-clause-found : goal.returns-in_err-trace-clause-found
 returns-in_err-trace-clause-found c =

@@ -3,16 +3,9 @@ use Rattle.msrp_text.specs.Reading.{csv_records, plan_of}
 use Rattle.msrp_engine.proofs.Answered.{settled_from_plan}
 use Rattle.msrp_view_engine.specs.Answers.{IsPageOf}
 use Rattle.msrp_view_engine.proofs.ReadThrough.{not_failed, not_refused}
-use Rattle.msrp_view_engine.proofs.page.page_of_texts.Goals as goal
+use Rattle.msrp_view_engine.proofs.view.page_of_texts.Goals as goal
 
 pub returns-clause-found : goal.returns-clause-found
 returns-clause-found g c = λ plan_bytes trace_bytes plan trace.
     settled_from_plan (λ read answer. IsPageOf read (csv_records trace_bytes) answer) c.in_ok-plan.plan (plan_of (csv_records plan_bytes)) c.page_of-made.result c.settled.result
     (c.in_ok-plan.ensures.answer plan_bytes plan) c.settled.ensures.same (c.page_of-made.ensures.found trace_bytes trace)
-
-pub returns-clause-reads : goal.returns-clause-reads
-returns-clause-reads g c = record {
-  refused = λ bytes error told refused. absurd (not_refused c.in_ok-plan.plan (plan_of (csv_records bytes)) error (c.in_ok-plan.ensures.answer bytes told) refused);
-  read = λ e. inr (c.settled.ensures.read e);
-  memory = λ e. (not_failed _ (λ failed. let no = c.in_ok-plan.ensures.read.1 failed in absurd (cc)), inl (c.settled.ensures.memory e));
-}
