@@ -4,7 +4,7 @@ ghost use Rattle.msrp_plan.specs.Common.{[], true, Some, Err, IfErr, WroteSome};
 ghost use Rattle.msrp_faults.specs.Outcomes.{is_audit_fault, is_trace_fault, is_view_fault};
 ghost use Rattle.msrp_picture.specs.Windows.{IsWindow};
 ghost use Rattle.msrp_text.specs.Reading.{csv_records};
-ghost use Rattle.msrp_trace.specs.Reading.{Told, rows_of};
+ghost use Rattle.msrp_trace.specs.Reading.{Told as TraceTold, rows_of};
 ghost use Rattle.msrp_trace.specs.Readers.{told_left};
 ghost use Rattle.msrp_engine.specs.Answered.{Answered, OfText, OfTexts, OrUnread, ReadsBoth};
 ghost use Rattle.msrp_engine.specs.MadeTexts.{found_in};
@@ -52,7 +52,7 @@ fn gather_rows<T: Read>(
     mut lines: Vec<(u32, u64)>,
 ) -> Result<Gathered, CliFault>
     requires { gathered.items ≡ [] }
-    ensures rows { (told : Told) → told_left T.remaining rows.old ≡ Some told → OrUnread result (rows_in result ≡ rows_read told) }
+    ensures rows { (told : TraceTold) → told_left T.remaining rows.old ≡ Some told → OrUnread result (rows_in result ≡ rows_read told) }
     ensures faults { IfErr result (λ fault. is_trace_fault fault ≡ true) }
 {
     let mut expected = 1;

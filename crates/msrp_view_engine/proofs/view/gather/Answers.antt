@@ -1,6 +1,6 @@
 use Rattle.std.proofs.Common.{◌≡◌}
-use Rattle.msrp_plan.proofs.Common.{rules, Err, Some, ap, subst, sym}
-use Rattle.msrp_view_engine.proofs.Common.{Told, csv_records, opened, rows_of, told_left, trace_fault_of, unopened}
+use Rattle.msrp_plan.proofs.Common.{rules, Err, ap}
+use Rattle.msrp_view_engine.proofs.Common.{Told, csv_records, rows_of, trace_fault_of, unopened}
 use Rattle.msrp_view_engine.proofs.ReadThrough.{error-read}
 use Rattle.msrp_view_engine.proofs.view.gather.Goals as goal
 

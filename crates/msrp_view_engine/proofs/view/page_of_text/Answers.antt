@@ -8,4 +8,4 @@ use Rattle.msrp_view_engine.proofs.view.page_of_text.Goals as goal
 pub returns-in_err-trace-clause-found : goal.returns-in_err-trace-clause-found
 returns-in_err-trace-clause-found c =
     let gives : c.from_residual.result ≡ Err c.in_err-trace.field-0.0 = search rules in
-    err-unread _ _ _ _ c.in_err-trace.ensures.rows gives (λ rows. ap found_in gives ∙ ap (verdict_on c.args.plan.now) rows)
+    err-unread _ _ _ _ (c.in_err-trace.ensures.rows c.args.text.now c.new.ensures.remaining) gives (λ rows. ap found_in gives ∙ ap (verdict_on c.args.plan.now) rows)

@@ -15,3 +15,10 @@ returns-clause-found g c = λ plan_bytes trace_bytes plan trace.
     let made = c.picture_of-made.result in
     let drawn = subst (λ w. OrUnread made (found_in made ≡ found_within c.in_ok-plan.plan (rows_of c.in_ok-plan.plan records) w)) (sym (sym c.window_of.ensures ∙ c.in-Some.is)) (c.picture_of-made.ensures.found trace_bytes trace) in
     settled_from_plan (λ read answer. IsPictureOf read records c.args.asked answer) c.in_ok-plan.plan (plan_of (csv_records plan_bytes)) made c.settled.result (c.in_ok-plan.ensures.answer plan_bytes plan) c.settled.ensures.same drawn
+
+pub returns-clause-reads : goal.returns-clause-reads
+returns-clause-reads g c = record {
+  refused = λ bytes error told refused. absurd (not_refused c.in_ok-plan.plan (plan_of (csv_records bytes)) error (c.in_ok-plan.ensures.answer bytes told) refused);
+  read = λ e. inr (c.settled.ensures.read e);
+  memory = λ e. (not_failed _ (λ failed. let no = c.in_ok-plan.ensures.read.1 failed in absurd (cc)), inl (c.settled.ensures.memory e));
+}

@@ -8,10 +8,10 @@ returns-in-Row-clause-explained g c = λ told known.
     let judged = subst (IsJudged c.args.plan.now told) c.in-Ok.is (c.judge_rows.ensures.found told known) in
     judged-explained c.args.plan.now told c.in-Ok.judged c.words_with.result judged c.words_with.ensures.found c.words_with.ensures.memory
 
-pub returns-in-End-clause-explained : goal.returns-in-End-clause-explained
-returns-in-End-clause-explained g c = λ told known.
+pub returns-clause-explained : goal.returns-clause-explained
+returns-clause-explained g c = λ told known.
     let judged = subst (IsJudged c.args.plan.now told) c.in-Ok.is (c.judge_rows.ensures.found told known) in
-    judged-explained c.args.plan.now told c.in-Ok.judged c.words_with.result judged c.words_with.ensures.found c.words_with.ensures.memory
+    judged-explained c.args.plan.now told c.in-Ok.judged c.words_with-in-End.result judged c.words_with-in-End.ensures.found c.words_with-in-End.ensures.memory
 
 pub returns-in-Err-clause-explained : goal.returns-in-Err-clause-explained
 returns-in-Err-clause-explained g c = λ told known.
