@@ -1,9 +1,7 @@
 -- A text that is read to its end: its rows, or its records.
 use Rattle.std.proofs.Common.{◌≡◌, ◌∙◌, ◌+◌, ◌≤◌, ◌∷◌, ◌++◌}
-use Rattle.msrp_plan.proofs.Common.{[], ℕ, Bool, true, false, List, Option, None, Some, PlanModel, Result, Ok, Err, refl, length, drop, take, ap, arith, sym, inl, inr, length-drop, slice_index_or, cases_lt, drop_more, take_all, take_more}
+use Rattle.msrp_plan.proofs.Common.{[], ℕ, List, Option, None, Some, Result, Ok, Err, length, drop, take, ap, arith, sym, inl, inr, length-drop, slice_index_or, cases_lt, drop_more, take_all, take_more}
 use Rattle.msrp_plan.specs.declared.rows.Row.{Row}
-use Rattle.msrp_text.specs.Reading.{Answers as TextAnswers}
-use Rattle.msrp_text.specs.declared.reading.TextError.{TextError}
 use Rattle.msrp_trace.specs.Reading.{Told}
 use Rattle.msrp_trace.specs.declared.faults.TraceError.{TraceError}
 use Rattle.msrp_trace.proofs.ReadThrough.{Answers, IsError, IsReadTo, read-whole}
@@ -49,15 +47,3 @@ all-taken records n m e h =
     let size : length (drop n records) ≡ 0 = ap length e in
     let small : length records ≤ n = omega (arith, length-drop n records, size) in
     take_all n records small ∙ sym (take_all m records (omega arith))
-
--- ---- faults
--- a plan that was read is accepted
-pub not_refused : (plan : PlanModel) (expected : Result PlanModel TextError) (error : TextError) → TextAnswers (Ok plan) expected → expected ≡ Err error → ⊥
-not_refused plan expected error answers refused = elim answers [
-  | inl e ↦ absurd (cc)
-  | inr k ↦ elim k [ inl e ↦ absurd (cc) | inr e ↦ absurd (cc) ]
-]
-
-pub not_failed : (failed : Bool) → (failed ≡ true → ⊥) → failed ≡ false
-not_failed true h = absurd (h refl)
-not_failed false h = refl

@@ -2,13 +2,13 @@
 ghost use Rattle.std.specs.Prelude.{◌≡◌};
 ghost use Rattle.msrp_plan.specs.Common.{[], true, Some, Err, IfErr, WroteSome};
 ghost use Rattle.msrp_faults.specs.Outcomes.{is_audit_fault, is_trace_fault, is_view_fault};
-ghost use Rattle.msrp_picture.specs.Windows.{IsWindow};
+ghost use Rattle.msrp_picture.specs.Windows.{window_of};
 ghost use Rattle.msrp_text.specs.Reading.{csv_records};
 ghost use Rattle.msrp_trace.specs.Reading.{Told as TraceTold, rows_of};
 ghost use Rattle.msrp_trace.specs.Readers.{told_left};
 ghost use Rattle.msrp_engine.specs.Answered.{Answered, OfText, OfTexts, OrUnread, ReadsBoth};
 ghost use Rattle.msrp_engine.specs.MadeTexts.{found_in};
-ghost use Rattle.msrp_view_engine.specs.Answers.{IsPictureOf, PageAnswers, ViewAnswers, page_found, rows_in, rows_read, verdict_on};
+ghost use Rattle.msrp_view_engine.specs.Answers.{IsPictureOf, PageAnswers, ViewAnswers, found_within, page_found, rows_in, rows_read, verdict_on};
 
 use crate::why::explain_all;
 use crate::why_plan::bytes_of;
@@ -16,7 +16,7 @@ use crate::words::answer_to;
 use msrp_audit::audit;
 use msrp_engine::{CliFault, Made, settled, write_answer};
 use msrp_page::{TickLength, Told, html};
-use msrp_picture::{Asked, Window, draw, window_of};
+use msrp_picture::{Asked, draw, window_of};
 use msrp_plan::bytes::{Sink, Source};
 use msrp_plan::{Memory, Plan, Row, Trace};
 use msrp_text::read_plan;
@@ -84,12 +84,14 @@ fn picture_of<T: Read>(
     plan: &Plan,
     trace: &mut Source<T>,
     asked: Asked,
-    window: Window,
 ) -> Result<Made, CliFault>
-    requires { IsWindow window }
-    ensures found { OfText T.remaining trace.old result (λ records. found_in result ≡ verdict_on plan.now (rows_read (rows_of plan.now records))) }
-    ensures faults { IfErr result (λ fault. is_trace_fault fault ≡ true) }
+    ensures found { OfText T.remaining trace.old result (λ records. found_in result ≡ found_within plan.now (rows_of plan.now records) (window_of plan.now asked)) }
+    ensures faults { IfErr result (λ fault. is_view_fault fault ≡ true) }
+    ensures unwritten { ¬ (result ≡ Err CliFault.Write) }
 {
+    let Some(window) = window_of(plan, asked) else {
+        return Err(CliFault::Usage);
+    };
     let trace = gather(alloc, plan, trace)?.trace;
     let found = audit(alloc, plan, &trace)?;
     let text = draw(alloc, plan, trace.rows.as_slice(), found, asked, window)?;
@@ -109,10 +111,7 @@ pub fn picture_of_texts<P: Read, T: Read>(
     ensures unwritten { ¬ (result ≡ Err CliFault.Write) }
 {
     let plan = read_plan(alloc, plan)?;
-    let Some(window) = window_of(&plan, asked) else {
-        return Err(CliFault::Usage);
-    };
-    let made = picture_of(alloc, &plan, trace, asked, window);
+    let made = picture_of(alloc, &plan, trace, asked);
     settled(made, trace)
 }
 

@@ -21,7 +21,7 @@ use msrp_engine::{
 };
 use msrp_levels::Levels;
 use msrp_plan::bytes::{Sink, Source};
-use msrp_plan::{Fault, Plan, Row, TextVersion};
+use msrp_plan::{Fault, Plan, Row};
 use msrp_text::read_plan;
 use msrp_trace::{TraceError, TraceReader};
 use msrp_why::{Ended, Ground, Notes, RefusedRecord, RefusedRow, Why, cause_of};
