@@ -19,7 +19,6 @@ pub struct NestedLocks {
     pub inner: usize,
 }
 
-// The core after a record: a task's own.
 fn core_after(row: &ByteRecord, core: u32) -> u32
     ensures { result ≡ spec.core_after (fields_of row.now) core }
 {
@@ -30,7 +29,6 @@ fn core_after(row: &ByteRecord, core: u32) -> u32
     }
 }
 
-// The core of the last task among the first `n` records.
 fn core_at(records: &[ByteRecord], n: usize) -> u32
     requires { n ≤ length records.now }
     ensures { result ≡ spec.core_at (map fields_of records.now) n }
@@ -124,7 +122,6 @@ impl Users {
     }
 }
 
-// The first lock of a global resource while a global one is held.
 fn first_nested(records: &[ByteRecord]) -> Option<NestedLocks> {
     let users = Users::among(records);
     let mut held: Option<(usize, &ByteRecord)> = None;

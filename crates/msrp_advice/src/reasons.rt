@@ -15,15 +15,14 @@ use msrp_plan::limits::{LONGEST_TIME, MOST_HELD};
 use msrp_text::fields::{has_word, name_at, number_at};
 use std::fmt::{self, Formatter, Write};
 
-// How a record is written, and of how many fields; the first place of its numbers, and what they
-// are.
+// How a record is written, of how many fields, the first place of its numbers, and what they are.
 type Form = (&'static str, usize, usize, &'static [&'static str]);
 
 const OPERATION: &str = "op,run,UNITS or op,lock,NAME or op,unlock,NAME";
 
-const PERIODIC: &[&str] = &["core", "period", "relative deadline", "offset"];
-
 const LISTED: &[&str] = &["core", "relative deadline"];
+
+const PERIODIC: &[&str] = &["core", "period", "relative deadline", "offset"];
 
 fn form_of(row: &ByteRecord) -> Form {
     match name_at(row, 0) {
@@ -48,12 +47,10 @@ fn is_out(row: &ByteRecord, i: usize) -> bool {
     }
 }
 
-// Whether a field begins or ends with a blank.
 fn is_padded(field: &[u8]) -> bool {
     matches!(field.first(), Some(b' ' | b'\t')) || matches!(field.last(), Some(b' ' | b'\t'))
 }
 
-// A field of a record, where there is a record.
 fn shown(row: Option<&ByteRecord>, i: usize) -> Shown<'_> {
     Shown(row.map_or(b"", |row| field(row, i)))
 }
@@ -99,7 +96,6 @@ impl<'a> RefusedPlan<'a> {
         }
     }
 
-    // P1
     fn version(&self) -> &'static str {
         match name_at(self.row, 0) {
             _ if self.row.len() == 0 => "the plan is empty; it must begin with msrp,1 or msrp,2",
@@ -109,7 +105,6 @@ impl<'a> RefusedPlan<'a> {
         }
     }
 
-    // P2
     fn out_of_place(&self) -> &'static str {
         let row = self.row;
         let is_op_word = is_op(b"run", row) || is_op(b"lock", row) || is_op(b"unlock", row);
@@ -130,7 +125,6 @@ impl<'a> RefusedPlan<'a> {
         }
     }
 
-    // P5
     fn misnamed(&self) -> &'static str {
         let name = field(self.row, 1);
         if name.len() == 0 {
@@ -148,7 +142,6 @@ impl<'a> RefusedPlan<'a> {
         }
     }
 
-    // P7
     fn limit(&self) -> &'static str {
         let (row, before) = (self.row, self.before);
         let held = (0..before.len()).filter(|i| is_open(before, *i)).count();
@@ -168,7 +161,6 @@ impl<'a> RefusedPlan<'a> {
         }
     }
 
-    // P10
     fn nesting(&self) -> &'static str {
         if self.earlier().is_none() {
             "task {task} doesn't hold {it}"
@@ -181,7 +173,6 @@ impl<'a> RefusedPlan<'a> {
         }
     }
 
-    // The sentence on the record.
     fn sentence(&self) -> &'static str {
         let row = self.row;
         match self.fault {
@@ -213,7 +204,6 @@ impl<'a> RefusedPlan<'a> {
         }
     }
 
-    // The earlier record that the refusal concerns.
     fn earlier(&self) -> Option<&'a ByteRecord> {
         let before = self.before;
         earlier_record(self.fault, before, self.row).and_then(|i| before.get(i))
@@ -225,7 +215,6 @@ impl<'a> RefusedPlan<'a> {
         shown(records.find(|row| is_task(row)), 1)
     }
 
-    // The task, the locks and the cores of a nested lock.
     fn write_nested<W: Write>(&self, f: &mut Formatter<W>) -> fmt::Result {
         let before = self.before;
         let Some(NestedLocks { outer, inner }) = nested_locks(before) else {
@@ -239,7 +228,6 @@ impl<'a> RefusedPlan<'a> {
         write!(f, " while it holds {name} (used on cores {cores})")
     }
 
-    // The task that releases the most jobs.
     fn write_most<W: Write>(&self, f: &mut Formatter<W>) -> fmt::Result {
         match busiest_task(self.before).and_then(|i| self.before.get(i)) {
             Some(task) => {
@@ -250,7 +238,6 @@ impl<'a> RefusedPlan<'a> {
         }
     }
 
-    // What is in a hole.
     fn fill<W: Write>(&self, f: &mut Formatter<W>, hole: &str) -> fmt::Result {
         let (row, before, place) = (self.row, self.before, self.place());
         let (form, wanted, first, names) = form_of(row);

@@ -1,6 +1,5 @@
 //! The records of a plan's text: what each is, what it shares with another, and the earlier one
-//! that
-//! a refusal concerns.
+//! that a refusal concerns.
 ghost use Rattle.std.specs.Prelude.{◌≡◌, ◌<◌, ◌≤◌};
 ghost use Rattle.msrp_plan.specs.Common.{codes, drop, length, list_any, map};
 ghost use Rattle.csv.specs.Records.{fields_of};

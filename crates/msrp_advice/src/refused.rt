@@ -49,7 +49,6 @@ fn line_of(text: &[u8], number: usize) -> Option<usize> {
     None
 }
 
-// What an earlier record has to do with a refusal.
 fn write_concern<W: Write>(f: &mut Formatter<W>, row: &ByteRecord) -> fmt::Result {
     let name = Shown(field(row, 1));
     match name_at(row, 0) {
@@ -71,7 +70,6 @@ impl RefusedPlan<'_> {
         }
     }
 
-    // An earlier record that the refusal concerns, if there is one.
     fn write_note<W: Write>(&self, f: &mut Formatter<W>, earlier: Option<usize>) -> fmt::Result {
         if let Some((i, row)) = earlier.and_then(|i| Some((i, self.before.get(i)?))) {
             let number = i.saturating_add(1);

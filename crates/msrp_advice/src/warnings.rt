@@ -42,7 +42,6 @@ fn units_of(plan: &Plan, core: CoreId, task: TaskId) -> u64
     }
 }
 
-// How many units the jobs of a core have.
 fn core_units(plan: &Plan, core: CoreId) -> u128
     ensures { result ≡ core_units plan.now core.0 }
 {
@@ -61,14 +60,12 @@ fn has_deadline(plan: &Plan, task: TaskId) -> bool
     0 < plan.jobs(task) && plan.job_key(JobId { task, k: 0 }).deadline <= u64::from(plan.ticks())
 }
 
-// Whether a job has its absolute deadline within the ticks.
 fn any_has_deadline(plan: &Plan) -> bool
     ensures { result ≡ list_any (has_deadline plan.now) (range_with_len 0 (length plan.now.tasks)) }
 {
     (0..plan.tasks()).any(|task| has_deadline(plan, TaskId(task)))
 }
 
-// Adds a warning if there is reason for it.
 fn warn_if(reason: bool, plan: &Plan, warnings: &mut Vec<Warning>, warning: Warning) -> Made
     requires fact { reason ≡ is_odd plan.now warning }
     requires facts { AllPass (is_odd plan.now) warnings.old.items }
@@ -148,7 +145,6 @@ pub struct AcceptedPlan<'a> {
     pub warnings: &'a [Warning],
 }
 
-// A warning on a plan, in words.
 fn write_warning<W: Write>(f: &mut Formatter<W>, plan: &Plan, warning: Warning) -> fmt::Result {
     let ticks = Count(u128::from(plan.ticks()), "tick");
     match warning {

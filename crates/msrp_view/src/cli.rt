@@ -2,7 +2,7 @@
 ghost use Rattle.std.specs.Prelude.{◌≡◌, ◌⊎◌};
 ghost use Rattle.msrp_plan.specs.Common.{codes, false, map, option_map, string_bytes, Err, IfErr, IfOk, Some, is_ascii_digit, list_all};
 ghost use Rattle.clap.specs.Words.{app_of, fault_of, found_of, matches_of, new_app, new_rule, rows_of, rule_of};
-ghost use Rattle.msrp_view.specs.CommandLine.{IsAnswered, IsAsked, IsShown};
+ghost use Rattle.msrp_view.specs.CommandLine.{IsAnswered, IsAsked};
 ghost use Rattle.msrp_view.specs.CommandLine as line;
 
 use clap::error::ErrorKind;
@@ -75,14 +75,6 @@ const TICK_HELP: &str =
 
 const TRACE_HELP: &str = "path of the trace; - is standard input; only --why works without it";
 
-// The program, still without arguments.
-fn program<'a>(alloc: Global) -> Command<'a>
-    ensures { app_of result ≡ new_app (codes "msrp_view") }
-{
-    Command::new(alloc, "msrp_view").about(ABOUT)
-}
-
-// The flag that asks for the version.
 fn version<'a>(alloc: Global) -> Arg<'a>
     ensures rule { rule_of result ≡ line.version }
     ensures own { result.global ≡ false }
@@ -93,18 +85,10 @@ fn version<'a>(alloc: Global) -> Arg<'a>
         .help("print the version, and the kit and the commit of the release")
 }
 
-// A path that need not be given.
-fn optional<'a>(alloc: Global, name: &'a str, help: &'a str) -> Arg<'a>
-    ensures rule { rule_of result ≡ new_rule name.now }
-    ensures own { result.global ≡ false }
-{
-    Arg::new(alloc, name).help(help)
-}
-
 fn grammar<'a>(alloc: Global) -> Result<Command<'a>, AllocError>
     ensures { IfOk result (λ command. app_of command ≡ line.grammar) }
 {
-    let made = Ok(program(alloc));
+    let made = Ok(Command::new(alloc, "msrp_view").about(ABOUT));
     let made = with_arg(made, flag(alloc, "text", "plain-text picture (default)"));
     let made = with_arg(made, flag(alloc, "svg", SVG_HELP));
     let made = with_arg(made, valued(alloc, "from", "T", FROM_HELP));
@@ -117,7 +101,7 @@ fn grammar<'a>(alloc: Global) -> Result<Command<'a>, AllocError>
     let made = with_arg(made, version(alloc));
     let plan = "path of the plan; - is standard input";
     let made = with_arg(made, path(alloc, PLAN, plan));
-    with_arg(made, optional(alloc, TRACE, TRACE_HELP))
+    with_arg(made, Arg::new(alloc, TRACE).help(TRACE_HELP))
 }
 
 /// The text of the help.
@@ -128,13 +112,6 @@ pub fn help_text(alloc: Global) -> Result<String, CliFault>
     Ok(command.render_help()?)
 }
 
-// Whether each byte is a decimal digit.
-fn are_digits(text: &[u8]) -> bool
-    ensures { result ≡ list_all is_ascii_digit text.now }
-{
-    text.iter().all(|byte| byte.is_ascii_digit())
-}
-
 // The tick of an argument, if it is given: digits alone.
 fn tick_of(word: Option<&str>) -> Result<Option<u32>, CliFault>
     ensures value { result ≡ line.tick_of (option_map (λ word. word.now) word.entry) }
@@ -143,7 +120,7 @@ fn tick_of(word: Option<&str>) -> Result<Option<u32>, CliFault>
     let Some(word) = word else {
         return Ok(None);
     };
-    if !are_digits(word.as_bytes()) {
+    if !word.as_bytes().iter().all(|byte| byte.is_ascii_digit()) {
         return Err(CliFault::Usage);
     }
     match word.parse() {
@@ -164,7 +141,6 @@ fn style_of(text: bool, svg: bool) -> Result<Style, CliFault>
     }
 }
 
-// The picture that is asked for.
 fn asked_of(matches: &ArgMatches<'_>) -> Result<Asked, CliFault>
     ensures value { result ≡ line.asked_of (rows_of (found_of matches.now)) }
     ensures usage { IfErr result (λ fault. fault ≡ CliFault.Usage) }
@@ -186,7 +162,6 @@ fn says_picture(matches: &ArgMatches<'_>) -> bool
         || is_given(matches, "to")
 }
 
-// What is shown: a picture, words, or a file for another tool.
 fn view_of(matches: &ArgMatches<'_>) -> Result<View, CliFault>
     ensures value { result ≡ line.view_of (rows_of (found_of matches.now)) }
     ensures usage { IfErr result (λ fault. fault ≡ CliFault.Usage) }
@@ -206,18 +181,17 @@ fn view_of(matches: &ArgMatches<'_>) -> Result<View, CliFault>
     }
 }
 
-// Whether a plan alone is to be explained.
 fn explains_plan(view: View, trace: Option<&str>) -> bool
     ensures { result ≡ line.explains_plan view (option_map (λ path. path.now) trace.entry) }
 {
     matches!((view, trace), (View::Why, None))
 }
 
-// The command that shows that.
-fn shown_of<'a>(view: View, matches: &ArgMatches<'a>) -> Result<Cmd<'a>, CliFault>
-    ensures shown { IsShown view (rows_of (found_of matches.now)) result }
+fn asked_for<'a>(matches: &ArgMatches<'a>) -> Result<Cmd<'a>, CliFault>
+    ensures asked { IsAsked (rows_of (found_of matches.now)) result }
     ensures usage { IfErr result (λ fault. fault ≡ CliFault.Usage) }
 {
+    let view = view_of(matches)?;
     if explains_plan(view, value_of(matches, TRACE)) {
         return match value_of(matches, PLAN) {
             Some(plan) => Ok(Cmd::WhyPlan { plan }),
@@ -231,15 +205,6 @@ fn shown_of<'a>(view: View, matches: &ArgMatches<'a>) -> Result<Cmd<'a>, CliFaul
         trace,
         tick: value_of(matches, "tick"),
     })
-}
-
-// The command that the arguments ask for.
-fn asked_for<'a>(matches: &ArgMatches<'a>) -> Result<Cmd<'a>, CliFault>
-    ensures asked { IsAsked (rows_of (found_of matches.now)) result }
-    ensures usage { IfErr result (λ fault. fault ≡ CliFault.Usage) }
-{
-    let view = view_of(matches)?;
-    shown_of(view, matches)
 }
 
 // What is answered to arguments that are refused: the version or the help, where they ask for it,
@@ -310,7 +275,7 @@ fn misuse_in(matches: &ArgMatches<'_>) -> &'static str {
             "error: --tick takes a whole number with a unit: ns, us, ms or s, such as 10us\n"
         }
         Err(_) => "error: these options can't be combined\n",
-        Ok(view) if shown_of(view, matches).is_err() => {
+        Ok(_) if asked_for(matches).is_err() => {
             "error: give a plan and a trace, not both from standard input (-); only --why works without a trace\n"
         }
         Ok(_) => "error: the plan doesn't have these ticks\n",

@@ -28,7 +28,6 @@ const NO_RELEASE: &[u8] = b"kit: unknown\ncommit: unknown\n";
 // What a plan from standard input is called.
 const STANDARD_INPUT: &str = "<stdin>";
 
-// The text of that file, if the program is in a release.
 fn release_info(rt: &HostRuntime) -> Option<Vec<u8>> {
     let program = env::current_exe(rt).ok()?;
     let top = program.parent()?.parent()?;
@@ -36,7 +35,6 @@ fn release_info(rt: &HostRuntime) -> Option<Vec<u8>> {
     fs::read(rt, path.as_path()).ok()
 }
 
-// Does what the command asks for, and answers the exit status.
 fn answer<W: Write>(rt: &HostRuntime, cmd: Cmd<'_>, out: &mut Sink<W>) -> Result<u8, CliFault> {
     let alloc = rt.alloc();
     match cmd {

@@ -36,11 +36,9 @@ cause-found plan told rows r left fault cause more broken is = (
 )
 
 -- the line that is told of it
-pub line-found : (plan : PlanModel) (rows : List Row) (r : Row) (fault : Fault) (cause : Cause) (bytes : List ℕ) (line : Option ℕ) → fault_in plan (rows ++ r ∷ []) ≡ Some fault → IsCauseAfter plan rows r cause → cause.line ≡ line
-    → IfSome line (BeginsIn bytes (fault.row + 1)) → BeginsRow bytes (AtRow cause)
-line-found plan rows r fault cause bytes line broken is same begins =
-    let f = same_Some fault cause.fault (sym broken ∙ is.fault) in
-    subst (λ o. IfSome o (BeginsIn bytes (cause.fault.row + 1))) (sym same) (subst (λ (x : Fault). IfSome line (BeginsIn bytes (x.row + 1))) f begins)
+pub line-found : (fault : Fault) (cause : Cause) (bytes : List ℕ) (line : Option ℕ) → cause.fault ≡ fault → cause.line ≡ line → IfSome line (BeginsIn bytes (fault.row + 1)) → BeginsRow bytes (AtRow cause)
+line-found fault cause bytes line same told begins =
+    subst (λ o. IfSome o (BeginsIn bytes (cause.fault.row + 1))) (sym told) (subst (λ (x : Fault). IfSome line (BeginsIn bytes (x.row + 1))) (sym same) begins)
 
 -- rows without a fault, at the end
 pub end-found : (plan : PlanModel) (told : Told) (rows : List Row) (left after : Option Told) (result : Result (Option Row) TraceError) (found : Result ⊤ Fault) (notes : Notes)

@@ -1,10 +1,7 @@
 -- A text that is read to its end: its rows, or its records.
 use Rattle.std.proofs.Common.{◌≡◌, ◌∙◌, ◌+◌, ◌≤◌, ◌∷◌, ◌++◌}
-use Rattle.msrp_plan.proofs.Common.{[], ℕ, Bool, true, false, List, Option, None, Some, PlanModel, Result, Ok, Err, refl, length, drop, take, ap, arith, sym, inl, inr, length-drop, slice_index_or, cases_lt, drop_more, take_all, take_more}
+use Rattle.msrp_plan.proofs.Common.{[], ℕ, List, Option, None, Some, Result, Ok, Err, length, drop, take, ap, arith, sym, inl, inr, length-drop, slice_index_or, cases_lt, drop_more, take_all, take_more}
 use Rattle.msrp_plan.specs.declared.rows.Row.{Row}
-use Rattle.msrp_plan.specs.declared.traces.Trace.{Trace}
-use Rattle.msrp_text.specs.Reading.{Answers as TextAnswers}
-use Rattle.msrp_text.specs.declared.reading.TextError.{TextError}
 use Rattle.msrp_trace.specs.Reading.{Told}
 use Rattle.msrp_trace.specs.declared.faults.TraceError.{TraceError}
 use Rattle.msrp_trace.proofs.ReadThrough.{Answers, IsError, IsReadTo, read-whole}
@@ -12,6 +9,7 @@ use Rattle.msrp_engine.specs.Answered.{OrUnread}
 use Rattle.msrp_faults.specs.Outcomes.{trace_fault_of}
 use Rattle.msrp_faults.specs.declared.faults.CliFault.{CliFault}
 use Rattle.msrp_view_engine.specs.Answers.{rows_in, rows_or, rows_read}
+use Rattle.msrp_view_engine.specs.declared.view.Gathered.{Gathered}
 
 -- at the end all rows were read
 pub all-read : (told : Told) (rows : List Row) (left after : Option Told) (result : Result (Option Row) TraceError)
@@ -21,7 +19,7 @@ all-read told rows left after result is next e =
     sym (ap (rows_or told.rows) whole.1 ∙ ap (λ xs. Ok xs) whole.0)
 
 -- an error of the reader is a read that failed, want of memory, or the refusal
-pub error-read : (told : Told) (error : TraceError) (answer : Result Trace CliFault) (due : Type 0) → IsError error due → (due → told.refusal ≡ Some error) → answer ≡ Err (trace_fault_of error)
+pub error-read : (told : Told) (error : TraceError) (answer : Result Gathered CliFault) (due : Type 0) → IsError error due → (due → told.refusal ≡ Some error) → answer ≡ Err (trace_fault_of error)
     → OrUnread answer (rows_in answer ≡ rows_read told)
 error-read told error answer due h refused gives = elim h [
   | inl same ↦ inl (gives ∙ ap (λ x. Err (trace_fault_of x)) same)
@@ -49,15 +47,3 @@ all-taken records n m e h =
     let size : length (drop n records) ≡ 0 = ap length e in
     let small : length records ≤ n = omega (arith, length-drop n records, size) in
     take_all n records small ∙ sym (take_all m records (omega arith))
-
--- ---- faults
--- a plan that was read is accepted
-pub not_refused : (plan : PlanModel) (expected : Result PlanModel TextError) (error : TextError) → TextAnswers (Ok plan) expected → expected ≡ Err error → ⊥
-not_refused plan expected error answers refused = elim answers [
-  | inl e ↦ absurd (cc)
-  | inr k ↦ elim k [ inl e ↦ absurd (cc) | inr e ↦ absurd (cc) ]
-]
-
-pub not_failed : (failed : Bool) → (failed ≡ true → ⊥) → failed ≡ false
-not_failed true h = absurd (h refl)
-not_failed false h = refl

@@ -4,7 +4,6 @@ use Rattle.msrp_plan.specs.Common.{ℕ, Bool, false, true, List, Option, Some, N
 use Rattle.msrp_plan.specs.declared.bytes.Sink.{Sink}
 use Rattle.msrp_plan.specs.declared.faults.Fault.{Fault}
 use Rattle.msrp_plan.specs.declared.rows.Row.{Row}
-use Rattle.msrp_plan.specs.declared.traces.Trace.{Trace}
 use Rattle.msrp_audit.specs.Audits.{answer_of}
 use Rattle.msrp_text.specs.declared.reading.TextError.{TextError}
 use Rattle.msrp_trace.specs.Reading.{Told, rows_of}
@@ -19,6 +18,7 @@ use Rattle.msrp_engine.specs.AuditText.{verdict_status}
 use Rattle.msrp_engine.specs.Findings.{finding}
 use Rattle.msrp_engine.specs.MadeTexts.{found_in}
 use Rattle.msrp_engine.specs.declared.made.Made.{Made}
+use Rattle.msrp_view_engine.specs.declared.view.Gathered.{Gathered}
 use Rattle.msrp_view_engine.specs.declared.words.Words.{Words}
 
 -- the status of the verdict, or the refusal
@@ -44,8 +44,8 @@ rows_or rows (Some error) = Err (trace_fault_of error)
 abbrev pub rows_read : Told → Result (List Row) CliFault
 rows_read told = rows_or told.rows told.refusal
 
-abbrev pub rows_in : Result Trace CliFault → Result (List Row) CliFault
-rows_in (Ok trace) = Ok trace.rows.items
+abbrev pub rows_in : Result Gathered CliFault → Result (List Row) CliFault
+rows_in (Ok gathered) = Ok gathered.trace.rows.items
 rows_in (Err fault) = Err fault
 
 -- the verdict on rows that were read
@@ -78,10 +78,6 @@ ViewAnswers plan records asked old new result = Tells (picture_found plan record
 abbrev pub page_found : Result PlanModel TextError → List (List (List ℕ)) → Result (Result ⊤ Fault) CliFault
 page_found (Ok plan) records = verdict_on plan (rows_read (rows_of plan records))
 page_found (Err error) records = Err (fault_of error)
-
--- the page in memory comes with that
-abbrev pub IsPageOf : Result PlanModel TextError → List (List (List ℕ)) → Result Made CliFault → Type 0
-IsPageOf plan records made = found_in made ≡ page_found plan records
 
 -- the answer where the page is written
 abbrev pub PageAnswers : {W : Type 0} → Result PlanModel TextError → List (List (List ℕ)) → Sink W → Sink W → Result ℕ CliFault → Type 0

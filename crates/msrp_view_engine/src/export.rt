@@ -21,7 +21,6 @@ use msrp_trace::TraceReader;
 use std::alloc::{AllocError, Global};
 use std::io::{Read, Write};
 
-// Writes what follows all rows, with the verdict on them.
 fn write_end<W: Write>(
     exporter: &mut Exporter<'_>,
     out: &mut Sink<W>,
@@ -108,14 +107,11 @@ fn export_plan<T: Read, W: Write>(
 }
 
 /// Reads a plan and a trace of it, whoever made it, and writes the trace in a format: all of a
-/// legal
-/// run, and else the rows before the first that violates a rule, and the fault. The answer is the
-/// exit
-/// status of an audit, 0 or 1.
+/// legal run, and else the rows before the first that violates a rule, and the fault. The answer is
+/// the exit status of an audit, 0 or 1.
 ///
 /// The rows are judged and written as they come. So where a record of the trace is refused, or a
-/// read
-/// fails, the rows before it may have been written. Of a refused plan nothing is.
+/// read fails, the rows before it may have been written. Of a refused plan nothing is.
 #[tactic(auto, using(crate::proofs::Answering::writes))]
 pub fn export_text<P: Read, T: Read, W: Write>(
     alloc: Global,

@@ -1,59 +1,98 @@
-//! The picture of a trace's text.
+//! A trace's text as a picture, and as a page for a browser.
 ghost use Rattle.std.specs.Prelude.{◌≡◌};
 ghost use Rattle.msrp_plan.specs.Common.{[], true, Some, Err, IfErr, WroteSome};
-ghost use Rattle.msrp_faults.specs.Outcomes.{is_trace_fault, is_view_fault};
-ghost use Rattle.msrp_picture.specs.Windows.{IsWindow};
-ghost use Rattle.msrp_trace.specs.Reading.{Told, rows_of};
+ghost use Rattle.msrp_faults.specs.Outcomes.{is_audit_fault, is_trace_fault, is_view_fault};
+ghost use Rattle.msrp_picture.specs.Windows.{window_of};
+ghost use Rattle.msrp_text.specs.Reading.{csv_records};
+ghost use Rattle.msrp_trace.specs.Reading.{Told as TraceTold, rows_of};
 ghost use Rattle.msrp_trace.specs.Readers.{told_left};
 ghost use Rattle.msrp_engine.specs.Answered.{Answered, OfText, OfTexts, OrUnread, ReadsBoth};
 ghost use Rattle.msrp_engine.specs.MadeTexts.{found_in};
-ghost use Rattle.msrp_view_engine.specs.Answers.{IsPictureOf, ViewAnswers, rows_in, rows_read, verdict_on};
+ghost use Rattle.msrp_view_engine.specs.Answers.{IsPictureOf, PageAnswers, ViewAnswers, found_within, page_found, rows_in, rows_read, verdict_on};
 
+use crate::why::explain_all;
+use crate::why_plan::bytes_of;
 use crate::words::answer_to;
 use msrp_audit::audit;
 use msrp_engine::{CliFault, Made, settled, write_answer};
-use msrp_picture::{Asked, Window, draw, window_of};
+use msrp_page::{TickLength, Told, html};
+use msrp_picture::{Asked, draw, window_of};
 use msrp_plan::bytes::{Sink, Source};
-use msrp_plan::{Plan, Row, Trace};
+use msrp_plan::{Memory, Plan, Row, Trace};
 use msrp_text::read_plan;
 use msrp_trace::TraceReader;
 use std::alloc::Global;
 use std::io::{Read, Write};
 
-/// All rows that a reader has left.
-pub(crate) fn gather_rows<T: Read>(
+// The rows of a trace, and those whose line isn't the one after that of the row before; line 0 is
+// unknown.
+#[derive(Debug, Drop)]
+struct Gathered {
+    trace: Trace,
+    lines: Vec<(u32, u64)>,
+}
+
+// Notes the line of a row if it isn't the expected one, and answers the one that is expected next.
+fn note_line(
+    lines: &mut Vec<(u32, u64)>,
+    row: u32,
+    line: u64,
+    expected: u64,
+) -> Result<u64, Memory> {
+    if line != expected {
+        lines.push((row, line))?;
+    }
+    Ok(if line == 0 { 0 } else { line.saturating_add(1) })
+}
+
+// All rows that a reader has left.
+fn gather_rows<T: Read>(
     rows: &mut TraceReader<'_, T>,
     mut gathered: Vec<Row>,
-) -> Result<Trace, CliFault>
+    mut lines: Vec<(u32, u64)>,
+) -> Result<Gathered, CliFault>
     requires { gathered.items ≡ [] }
-    ensures rows { (told : Told) → told_left T.remaining rows.old ≡ Some told → OrUnread result (rows_in result ≡ rows_read told) }
+    ensures rows { (told : TraceTold) → told_left T.remaining rows.old ≡ Some told → OrUnread result (rows_in result ≡ rows_read told) }
     ensures faults { IfErr result (λ fault. is_trace_fault fault ≡ true) }
 {
-    for _row in 0..u64::MAX {
-        match rows.next_row()? {
-            Some(row) => gathered.push(row)?,
-            None => return Ok(Trace { rows: gathered }),
-        }
+    let mut expected = 1;
+    for number in 1..u32::MAX {
+        let Some(row) = rows.next_row()? else {
+            let trace = Trace { rows: gathered };
+            return Ok(Gathered { trace, lines });
+        };
+        let line = rows.line_of(number + 1).unwrap_or(0);
+        expected = note_line(&mut lines, number, line, expected)?;
+        gathered.push(row)?;
     }
     Err(CliFault::Memory)
 }
 
-// The picture of a trace of an accepted plan, in memory. Whatever ends the reading early may be told as a failed read.
+// All rows of a trace's text. Whatever ends the reading early may be told as a failed read.
+fn gather<T: Read>(alloc: Global, plan: &Plan, trace: &mut Source<T>) -> Result<Gathered, CliFault>
+    ensures rows { OfText T.remaining trace.old result (λ records. rows_in result ≡ rows_read (rows_of plan.now records)) }
+    ensures faults { IfErr result (λ fault. is_trace_fault fault ≡ true) }
+{
+    let mut rows = TraceReader::new(alloc, trace, plan)?;
+    let gathered = gather_rows(&mut rows, Vec::new(alloc), Vec::new(alloc));
+    drop(rows);
+    gathered
+}
+
 fn picture_of<T: Read>(
     alloc: Global,
     plan: &Plan,
     trace: &mut Source<T>,
     asked: Asked,
-    window: Window,
 ) -> Result<Made, CliFault>
-    requires { IsWindow window }
-    ensures found { OfText T.remaining trace.old result (λ records. found_in result ≡ verdict_on plan.now (rows_read (rows_of plan.now records))) }
-    ensures faults { IfErr result (λ fault. is_trace_fault fault ≡ true) }
+    ensures found { OfText T.remaining trace.old result (λ records. found_in result ≡ found_within plan.now (rows_of plan.now records) (window_of plan.now asked)) }
+    ensures faults { IfErr result (λ fault. is_view_fault fault ≡ true) }
+    ensures unwritten { ¬ (result ≡ Err CliFault.Write) }
 {
-    let mut rows = TraceReader::new(alloc, trace, plan)?;
-    let gathered = gather_rows(&mut rows, Vec::new(alloc));
-    drop(rows);
-    let trace = gathered?;
+    let Some(window) = window_of(plan, asked) else {
+        return Err(CliFault::Usage);
+    };
+    let trace = gather(alloc, plan, trace)?.trace;
     let found = audit(alloc, plan, &trace)?;
     let text = draw(alloc, plan, trace.rows.as_slice(), found, asked, window)?;
     Ok(Made { text, found })
@@ -72,18 +111,14 @@ pub fn picture_of_texts<P: Read, T: Read>(
     ensures unwritten { ¬ (result ≡ Err CliFault.Write) }
 {
     let plan = read_plan(alloc, plan)?;
-    let Some(window) = window_of(&plan, asked) else {
-        return Err(CliFault::Usage);
-    };
-    let made = picture_of(alloc, &plan, trace, asked, window);
+    let made = picture_of(alloc, &plan, trace, asked);
     settled(made, trace)
 }
 
 /// Reads a plan and a trace of it, whoever made it, and writes a picture of the ticks that are
-/// asked
-/// for. The answer is the exit status of an audit: 0 for a legal run, and 1 else; then the picture
-/// shows the rows before the first that violates a rule, and that one, and in SVG also what follows
-/// it. It is [`CliFault::Usage`] where the plan doesn't have such ticks.
+/// asked for. The answer is the exit status of an audit: 0 for a legal run, and 1 else; then the
+/// picture shows the rows before the first that violates a rule, and that one, and in SVG also what
+/// follows it. It is [`CliFault::Usage`] where the plan doesn't have such ticks.
 ///
 /// All memory is taken before anything is written. A trace of which a record is refused isn't
 /// drawn.
@@ -100,5 +135,75 @@ pub fn view_text<P: Read, T: Read, W: Write>(
     ensures always { Answered P.remaining (λ fault. is_view_fault fault ≡ true) plan.old plan.new trace.old trace.new out.old out.new result }
 {
     let made = picture_of_texts(alloc, plan, trace, asked)?;
+    write_answer(out, made.text.as_slice(), answer_to(Ok(made.found)))
+}
+
+fn page_of_text(
+    alloc: Global,
+    plan: &Plan,
+    text: &[u8],
+    length: Option<TickLength>,
+) -> Result<Made, CliFault>
+    ensures found { OrUnread result (found_in result ≡ verdict_on plan.now (rows_read (rows_of plan.now (csv_records text.now)))) }
+    ensures faults { IfErr result (λ fault. is_trace_fault fault ≡ true) }
+{
+    let Gathered { trace, lines } = gather(alloc, plan, &mut Source::new(text))?;
+    let found = audit(alloc, plan, &trace)?;
+    let words = explain_all(alloc, plan, &mut Source::new(text))?;
+    let (why, lines) = (words.text.as_slice(), lines.as_slice());
+    let told = Told { why, lines, length };
+    let text = html(alloc, plan, trace.rows.as_slice(), found, told)?;
+    Ok(Made { text, found })
+}
+
+// The page of a trace that is read. Whatever ends the reading early may be told as a failed read.
+fn page_of<T: Read>(
+    alloc: Global,
+    plan: &Plan,
+    trace: &mut Source<T>,
+    length: Option<TickLength>,
+) -> Result<Made, CliFault>
+    ensures found { OfText T.remaining trace.old result (λ records. found_in result ≡ verdict_on plan.now (rows_read (rows_of plan.now records))) }
+    ensures faults { IfErr result (λ fault. is_trace_fault fault ≡ true) }
+{
+    let text = bytes_of(alloc, trace)?;
+    page_of_text(alloc, plan, text.as_slice(), length)
+}
+
+fn page_of_texts<P: Read, T: Read>(
+    alloc: Global,
+    plan: &mut Source<P>,
+    trace: &mut Source<T>,
+    length: Option<TickLength>,
+) -> Result<Made, CliFault>
+    ensures found { OfTexts P.remaining T.remaining plan.old trace.old result (λ plan records. found_in result ≡ page_found plan records) }
+    ensures reads { ReadsBoth P.remaining plan.old plan.new trace.old trace.new result }
+    ensures faults { IfErr result (λ fault. is_audit_fault fault ≡ true) }
+    ensures unwritten { ¬ (result ≡ Err CliFault.Write) }
+{
+    let plan = read_plan(alloc, plan)?;
+    let made = page_of(alloc, &plan, trace, length);
+    settled(made, trace)
+}
+
+/// Reads a plan and a trace of it, whoever made it, and writes a page for a browser: the verdict
+/// with its reasons, the whole trace as a timeline, and the report of its legal rows. The answer is
+/// the exit status of an audit.
+///
+/// All memory is taken before anything is written: so whatever the fault, but a write fault,
+/// nothing was written. A trace of which a record is refused has no page.
+#[tactic(auto, using(crate::proofs::Answering::writes))]
+pub fn page_text<P: Read, T: Read, W: Write>(
+    alloc: Global,
+    plan: &mut Source<P>,
+    trace: &mut Source<T>,
+    out: &mut Sink<W>,
+    length: Option<TickLength>,
+) -> Result<u8, CliFault>
+    ensures answer { OfTexts P.remaining T.remaining plan.old trace.old result (λ plan records. PageAnswers plan records out.old out.new result) }
+    ensures wrote { WroteSome W.contents out.old out.new }
+    ensures always { Answered P.remaining (λ fault. is_audit_fault fault ≡ true) plan.old plan.new trace.old trace.new out.old out.new result }
+{
+    let made = page_of_texts(alloc, plan, trace, length)?;
     write_answer(out, made.text.as_slice(), answer_to(Ok(made.found)))
 }

@@ -21,15 +21,14 @@ use msrp_engine::{
 };
 use msrp_levels::Levels;
 use msrp_plan::bytes::{Sink, Source};
-use msrp_plan::{Fault, Plan, Row, TextVersion};
+use msrp_plan::{Fault, Plan, Row};
 use msrp_text::read_plan;
 use msrp_trace::{TraceError, TraceReader};
-use msrp_why::{Exercise, Ground, Missing, Notes, RefusedRecord, RefusedRow, Why, cause_of};
+use msrp_why::{Ended, Ground, Notes, RefusedRecord, RefusedRow, Why, cause_of};
 use std::alloc::Global;
 use std::fmt::Display;
 use std::io::{Read, Write};
 
-// A verdict, with what it stands on.
 #[derive(Debug, Drop)]
 struct Judged {
     verdict: Result<(), Fault>,
@@ -73,27 +72,16 @@ fn judge_rows<T: Read>(
         match rows.next_with_state()? {
             Judgement::Legal(row) => notes.note(plan, levels, rows.state(), row),
             Judgement::Broken(row, broken) => {
-                let line = line_of_row(rows.reader(), broken.fault);
-                let cause = cause_of(
-                    plan,
-                    rows.auditor(),
-                    notes,
-                    rows.state(),
-                    broken.expected,
-                    row,
-                    line,
-                    broken.fault,
-                );
-                return Ok(Judged {
-                    verdict: Err(broken.fault),
-                    ground: Ground::Row(cause),
-                });
+                let Broken { fault, expected } = broken;
+                let (auditor, state) = (rows.auditor(), rows.state());
+                let line = line_of_row(rows.reader(), fault);
+                let cause = cause_of(plan, auditor, notes, state, expected, row, line, fault);
+                let (verdict, ground) = (Err(fault), Ground::Row(cause));
+                return Ok(Judged { verdict, ground });
             }
             Judgement::End => {
-                return Ok(Judged {
-                    verdict: rows.auditor().end(),
-                    ground: Ground::End(notes),
-                });
+                let (verdict, ground) = (rows.auditor().end(), Ground::End(notes));
+                return Ok(Judged { verdict, ground });
             }
         }
     }
@@ -118,36 +106,6 @@ fn words_with<T: Display>(
     })
 }
 
-// The words on a verdict, in memory. Rows are shown as in a trace of this version.
-fn words_on(
-    alloc: Global,
-    plan: &Plan,
-    levels: &Levels<'_>,
-    version: TextVersion,
-    judged: &Judged,
-) -> Result<Words, CliFault>
-    requires levels { levels.now ≡ plan.now }
-    ensures found { IfOk result (λ words. words.found ≡ Ok judged.now.verdict) }
-    ensures words { IfOk result AreOnTrace }
-    ensures memory { IfErr result (λ fault. fault ≡ CliFault.Memory) }
-{
-    let verdict = judged.verdict;
-    match (&judged.ground, verdict) {
-        (Ground::Row(cause), _) => {
-            words_with(alloc, verdict, &Why::new(plan, levels, version, cause))
-        }
-        (Ground::End(notes), Ok(())) => words_with(alloc, verdict, &Exercise { plan, notes }),
-        (Ground::End(notes), Err(_)) => {
-            let missing = Missing {
-                plan,
-                version,
-                notes,
-            };
-            words_with(alloc, verdict, &missing)
-        }
-    }
-}
-
 /// The words on the fault of a row that was fed to this auditor. They are told without what the
 /// rows before it left.
 pub fn why_of_row(
@@ -167,7 +125,7 @@ pub fn why_of_row(
     let Broken { fault, expected } = broken;
     let notes = Notes::none(alloc);
     let cause = cause_of(plan, auditor, notes, None, expected, row, None, fault);
-    words_with(alloc, Err(fault), &Why::of_fed(plan, levels, &cause))
+    words_with(alloc, Err(fault), &Why::new(plan, levels, None, &cause))
 }
 
 /// The words on a row that was fed and is none of the plan, by the number after R of its code.
@@ -176,13 +134,11 @@ pub fn why_of_refused_row(alloc: Global, code: u32, number: u32) -> Result<Words
     ensures memory { IfErr result (λ fault. fault ≡ CliFault.Memory) }
 {
     let refused = RefusedRow { code, number };
-    Ok(Words {
-        text: format!(in alloc; "{refused}")?.into_bytes(),
-        found: Err(CliFault::Trace { code, number }),
-    })
+    let text = format!(in alloc; "{refused}")?.into_bytes();
+    let found = Err(CliFault::Trace { code, number });
+    Ok(Words { text, found })
 }
 
-// The words on a refused record, in memory.
 fn words_on_refusal(
     alloc: Global,
     plan: &Plan,
@@ -210,7 +166,6 @@ fn words_on_refusal(
     })
 }
 
-// The words on the rows that are left.
 fn explain_rows<T: Read>(
     alloc: Global,
     plan: &Plan,
@@ -226,12 +181,20 @@ fn explain_rows<T: Read>(
     ensures words { IfOk result AreOnTrace }
     ensures fault { IfErr result (λ fault. (fault ≡ CliFault.Memory) ⊎ (fault ≡ CliFault.Read)) }
 {
-    match judge_rows(plan, levels, notes, rows) {
-        Ok(judged) => words_on(alloc, plan, levels, rows.reader().version(), &judged),
+    let judged = match judge_rows(plan, levels, notes, rows) {
+        Ok(judged) => judged,
         Err(error) => {
             let line = line_of_refused(rows.reader(), error);
-            words_on_refusal(alloc, plan, error, line, rows.reader().refused_record())
+            return words_on_refusal(alloc, plan, error, line, rows.reader().refused_record());
         }
+    };
+    let (verdict, version) = (judged.verdict, rows.reader().version());
+    match &judged.ground {
+        Ground::Row(cause) => {
+            let why = Why::new(plan, levels, Some(version), cause);
+            words_with(alloc, verdict, &why)
+        }
+        Ground::End(notes) => words_with(alloc, verdict, &Ended(plan, version, notes)),
     }
 }
 
@@ -261,7 +224,6 @@ pub(crate) fn explain_all<T: Read>(
     words
 }
 
-// The words on a trace of a plan, whoever made it.
 fn explain<P: Read, T: Read>(
     alloc: Global,
     plan: &mut Source<P>,
@@ -289,26 +251,21 @@ pub fn why_of_texts<P: Read, T: Read>(
     ensures unwritten { ¬ (result ≡ Err CliFault.Write) }
 {
     let words = explain(alloc, plan, trace)?;
+    let text = words.text;
     match words.found {
-        Ok(found) => Ok(Made {
-            text: words.text,
-            found,
-        }),
+        Ok(found) => Ok(Made { text, found }),
         Err(fault) => Err(fault),
     }
 }
 
-/// Reads a plan and a trace of it, whoever made it, and writes the verdict as
-/// [`audit_text`](crate::audit_text) does, and behind it what makes it so: the first row that
-/// violates
-/// a rule, the rule, the row expected in its place, and the facts that the rule needs; of a legal
-/// trace, what its run exercised. The answer is the exit status, 0 or 1. Of a refused record it
-/// writes
-/// what is wrong and the record as it stands; the answer is the refusal.
+/// Reads a plan and a trace of it, whoever made it, and writes the verdict as an audit does, and
+/// behind it what makes it so: the first row that violates a rule, the rule, the row expected in
+/// its place, and the facts that the rule needs; of a legal trace, what its run exercised. The
+/// answer is the exit status, 0 or 1. Of a refused record it writes what is wrong and the record as
+/// it stands; the answer is the refusal.
 ///
 /// The rows are judged as they come, and one is kept at a time. All memory is taken before anything
-/// is
-/// written. Of a refused plan nothing is.
+/// is written. Of a refused plan nothing is.
 #[tactic(auto, using(crate::proofs::Answering::writes))]
 pub fn why_text<P: Read, T: Read, W: Write>(
     alloc: Global,

@@ -34,7 +34,6 @@ pub(crate) fn bytes_of<P: Read>(alloc: Global, text: &mut Source<P>) -> Result<V
     }
 }
 
-// The first records of a text, at most so many.
 fn first_records(alloc: Global, bytes: &[u8], most: u32) -> Result<Vec<ByteRecord>, CliFault>
     ensures records { IfOk result (λ records. map fields_of records.items ≡ take most (csv_records bytes.now)) }
     ensures fault { IfErr result (λ fault. fault ≡ CliFault.Memory) }
@@ -55,7 +54,6 @@ fn first_records(alloc: Global, bytes: &[u8], most: u32) -> Result<Vec<ByteRecor
     Ok(records)
 }
 
-// The text of the words on a refused record, with the records before it.
 fn refusal_text<'a>(
     alloc: Global,
     name: &'a str,
@@ -78,7 +76,6 @@ fn refusal_text<'a>(
     Ok(format!(in alloc; "{words}")?.into_bytes())
 }
 
-// The words on a refused record of a text, in memory.
 fn words_on_refusal(
     alloc: Global,
     name: &str,
@@ -100,7 +97,6 @@ fn words_on_refusal(
     })
 }
 
-// The words on an accepted plan, in memory.
 fn words_on_plan(alloc: Global, plan: &Plan) -> Result<Words, CliFault>
     ensures found { IfOk result (λ words. words.found ≡ Ok (Ok tt)) }
     ensures memory { IfErr result (λ fault. fault ≡ CliFault.Memory) }

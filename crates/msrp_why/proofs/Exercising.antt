@@ -20,10 +20,10 @@ below plan c j on = All-contains (λ (i : JobId). i.task.0 < length plan.tasks) 
 pub head_known : (plan : PlanModel) (c t : ℕ) (rows : List Row) (s : CoreState) → IsCoreState plan c t rows s → ForSome s.head (λ h. h.task.0 < length plan.tasks)
 head_known plan c t rows s is = λ h e. below plan c h (least_in (is_before plan) (λ j. is_released plan t j && not (is_started rows j)) (jobs_on plan c) h (sym is.head ∙ e))
 
--- what is asked only where something else holds
-pub and_where : (b x y : Bool) → (b ≡ true → x ≡ y) → (b && x) ≡ (b && y)
-and_where true x y h = h refl
-and_where false x y h = refl
+-- what is asked of a number that is only there where something else holds
+pub and_where : (b : Bool) (o : Option ℕ) (test : ℕ → Bool) → option_map_or test (cond b o None) false ≡ (b && option_map_or test o false)
+and_where true o test = refl
+and_where false o test = refl
 
 -- the rows before another are few
 pub few_before : (plan : PlanModel) (rows : List Row) (r : Row) → IsPlan plan → IsRunStart plan (rows ++ r ∷ []) → length rows < 160000

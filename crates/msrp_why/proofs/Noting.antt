@@ -1,6 +1,6 @@
 -- What is noted of the resources stays what the rows say, one row more.
 use Rattle.std.proofs.Common.{◌≡◌, ◌≢◌, ◌+◌, ◌-◌, ◌^◌, ◌<◌, ◌≤◌, ◌&&◌, ◌∷◌, ◌++◌, ◌∙◌, ◌||◌}
-use Rattle.msrp_plan.proofs.Common.{ℕ, zero, suc, min, Bool, true, false, cond, List, [], Option, Some, None, refl, ap, sym, subst, arith, length, length-append, drop, append-nil, is_some, map, slice_get, slice_set, Contains, cons_option, filter, true≢false, and_parts, drop-append-le, drop-drop, length-map, filter-append, fold_push, sum_by_push, PlanModel, has_shape, is_global, resources, done, holds, is_queued, is_global_unit, res_of_unit, fifo, is_first, is_on, is_release, is_release_of, is_request, EachAfter, IsLegal, IsRunStart, IsPlan, same_is, in_resources, DoesUnit, legal_turn, not_equal, units_lock, list_any, range_with_len, allows, start_last, start_before}
+use Rattle.msrp_plan.proofs.Common.{ℕ, zero, suc, min, Bool, true, false, cond, List, [], Option, Some, None, refl, ap, sym, subst, arith, length, length-append, drop, append-nil, is_some, map, slice_get, slice_set, Contains, cons_option, filter, true≢false, and_parts, drop-append-le, drop-drop, length-map, filter-append, fold_push, sum_by_push, PlanModel, has_shape, is_global, resources, done, holds, is_queued, is_global_unit, res_of_unit, fifo, is_first, is_on, is_release, is_release_of, is_request, IsRunStart, IsPlan, same_is, in_resources, DoesUnit, legal_turn, not_equal, units_lock, list_any, range_with_len, allows, start_last, start_before}
 use Rattle.msrp_why.proofs.Common.{AreResourcesNoted, IsNoted, JobId, Kind, Lock, LockUnit, Numbered, Op, Queue, ResId, ResourceNotes, Row, Run, RunUnit, Take, Unlock, UnlockUnit, changes, eqb-true, is_change, is_inside, is_user, job_of, last_change, last_row, min-eq_left, numbered, option_map, option_map_or, queue_rows, requests}
 use Rattle.std.specs.List.{fold}
 use Rattle.std.proofs.lemmas.List.{drop-map}
@@ -86,8 +86,8 @@ first_by (e ∷ es) (i ∷ is) j all first =
     ap (λ (xs : List (Option JobId)). slice_get xs 0) all ∙ ap (λ k. Some (Some k)) (sym (same_is j i first))
 
 -- who holds a global resource requested it in the first of these rows
-pub first_holds : (plan : PlanModel) (rows : List Row) (g : ℕ) (j : JobId) → IsPlan plan → is_global plan g ≡ true → EachAfter (IsLegal plan) [] rows → holds plan rows g j ≡ true → option_map job_of (slice_get (queue_rows g rows) 0) ≡ Some (Some j)
-first_holds plan rows g j ok global all held = first_by (queue_rows g rows) (fifo g rows) j (queue_jobs g rows) ((orderly_at plan g rows ok global all).first j (holder_stands plan g rows j held))
+pub first_holds : (plan : PlanModel) (rows : List Row) (g : ℕ) (j : JobId) → IsPlan plan → is_global plan g ≡ true → IsRunStart plan rows → holds plan rows g j ≡ true → option_map job_of (slice_get (queue_rows g rows) 0) ≡ Some (Some j)
+first_holds plan rows g j ok global start held = first_by (queue_rows g rows) (fifo g rows) j (queue_jobs g rows) ((orderly_at plan g rows ok global start.each).first j (holder_stands plan g rows j held))
 
 -- as many stand in the queue
 queue_size : (g : ℕ) (rows : List Row) → length (queue_rows g rows) ≡ length (fifo g rows)

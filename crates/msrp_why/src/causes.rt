@@ -45,7 +45,6 @@ pub enum Ground {
     End(Notes),
 }
 
-// One core more, if it has a turn.
 fn push_if(found: &mut ArrayVec<u32, MOST_TURNS>, core: u32, has_turn: bool)
     ensures { length found.old.items < MOST_TURNS → found.new.items ≡ if has_turn then found.old.items ++ core ∷ [] else found.old.items }
 {
@@ -54,7 +53,6 @@ fn push_if(found: &mut ArrayVec<u32, MOST_TURNS>, core: u32, has_turn: bool)
     }
 }
 
-// The cores that have their turns in the expected tick still to come.
 fn cores_with_turn(plan: &Plan, auditor: &Auditor<'_>) -> ArrayVec<u32, MOST_TURNS>
     requires plan { auditor.now.plan ≡ plan.now }
     ensures turns { (rows : List TraceRow) → HasFed auditor.now rows → auditor.now.fault ≡ None → length rows < plan.now.cores * plan.now.ticks → result.items ≡ cores_with_turn plan.now rows }
@@ -82,7 +80,7 @@ pub fn cause_of(
 ) -> Cause
     requires plan { auditor.now.plan ≡ plan.now }
     ensures cause { (rows : List TraceRow) → fault_in plan.now rows ≡ None → IsBroken plan.now rows row fault expected auditor.now → AreNoted plan.now rows notes → IsStateAfter plan.now rows row.core.0 state → IsCauseAfter plan.now rows row result }
-    ensures line { result.line ≡ line }
+    ensures kept { (result.fault ≡ fault) × (result.line ≡ line) }
 {
     let turns = cores_with_turn(plan, auditor);
     Cause {

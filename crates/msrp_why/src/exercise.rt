@@ -1,7 +1,7 @@
 //! What a run exercised, counted as its rows are judged: a trace in which nothing happens is legal
 //! too.
-ghost use Rattle.std.specs.Prelude.{◌≡◌, ◌==◌, ◌+◌, ◌&&◌, ◌<◌, ◌++◌, ◌∷◌};
-ghost use Rattle.msrp_plan.specs.Common.{[], List, length, max, not, true, false, ForSome, IsRunStart, IsPlan, IsSome, is_grant, is_queue, is_waiting, key, level, option_map, release_tick, units};
+ghost use Rattle.std.specs.Prelude.{◌≡◌, ◌==◌, ◌+◌, ◌&&◌, ◌<◌, ◌++◌, ◌∷◌, if◌then◌else◌};
+ghost use Rattle.msrp_plan.specs.Common.{[], List, None, length, max, not, true, false, ForSome, IsRunStart, IsPlan, IsSome, is_grant, is_queue, is_waiting, key, level, option_map, release_tick, units};
 ghost use Rattle.std.specs.Option.{option_map_or};
 ghost use Rattle.msrp_plan.specs.declared.rows.Row.{Row as TraceRow};
 ghost use Rattle.msrp_core.specs.CoreStates.{IsCoreState};
@@ -51,12 +51,6 @@ fn one_if(count: u32, so: bool) -> u32
     ensures { result ≡ one_if count so }
 {
     count.saturating_add(u32::from(so))
-}
-
-fn both(one: bool, other: bool) -> bool
-    ensures { result ≡ (one && other) }
-{
-    one && other
 }
 
 fn is_at_most(value: Option<u64>, most: u64) -> bool
@@ -124,7 +118,7 @@ fn finishes(plan: &Plan, state: CoreState, kind: Kind, job: Option<JobId>) -> bo
 
 // The absolute deadline of a job that finishes. Most turns finish none, and ask for no deadline.
 fn deadline_of(plan: &Plan, job: Option<JobId>, finished: bool) -> Option<u64>
-    ensures { finished ≡ true → ForSome job (λ j. is_job_of plan.now j ≡ true) → result ≡ option_map (λ j. (key plan.now j).deadline) job }
+    ensures { ForSome job (λ j. is_job_of plan.now j ≡ true) → result ≡ if finished then option_map (λ j. (key plan.now j).deadline) job else None }
 {
     match job {
         Some(known) if finished && is_job_of(plan, known) => Some(plan.job_key(known).deadline),
@@ -132,7 +126,6 @@ fn deadline_of(plan: &Plan, job: Option<JobId>, finished: bool) -> Option<u64>
     }
 }
 
-// The preemption level of a job.
 fn level_of(plan: &Plan, levels: &Levels<'_>, job: Option<JobId>) -> Option<u64>
     requires { levels.now ≡ plan.now }
     ensures { ForSome job (λ j. j.task.0 < length plan.now.tasks) → result ≡ option_map (λ j. level plan.now j.task.0) job }
@@ -143,7 +136,6 @@ fn level_of(plan: &Plan, levels: &Levels<'_>, job: Option<JobId>) -> Option<u64>
     }
 }
 
-// Whether another job runs.
 fn is_other(running: Option<JobId>, job: Option<JobId>) -> bool
     ensures { result ≡ is_other running job }
 {
@@ -173,12 +165,8 @@ impl TurnCounts {
         let deadline = deadline_of(plan, row.job, finished);
         let level = level_of(plan, levels, state.head);
         self.finished = one_if(self.finished, finished);
-        self.late = one_if(
-            self.late,
-            both(finished, is_at_most(deadline, u64::from(row.tick))),
-        );
-        let at_deadline = both(finished, is_at(deadline, u64::from(row.tick) + 1));
-        self.at_deadline = one_if(self.at_deadline, at_deadline);
+        self.late = one_if(self.late, is_at_most(deadline, u64::from(row.tick)));
+        self.at_deadline = one_if(self.at_deadline, is_at(deadline, u64::from(row.tick) + 1));
         self.kept = one_if(self.kept, is_at_most(level, u64::from(state.ceiling)));
         self.at_ceiling = one_if(self.at_ceiling, is_at(level, u64::from(state.ceiling)));
         self.preempted = one_if(self.preempted, is_other(state.running, row.job));

@@ -29,7 +29,6 @@ impl RefusedRecord<'_> {
         has_word(self.row, i, word)
     }
 
-    // R1
     fn head(&self) -> &'static str {
         if self.row.len() == 0 {
             "the trace is empty; its first record must be msrp-trace,1,{cores},{ticks} or msrp-trace,2,{cores},{ticks}"
@@ -46,7 +45,6 @@ impl RefusedRecord<'_> {
         }
     }
 
-    // R3
     fn number(&self) -> &'static str {
         if number_at(self.row, 0).is_none() || number_at(self.row, 1).is_none() {
             "{odd}not a whole number: no sign, decimal point or leading zero, at most 9 digits"
@@ -57,7 +55,6 @@ impl RefusedRecord<'_> {
         }
     }
 
-    // R5
     fn name(&self) -> &'static str {
         if self.has(3, b"-") || self.plan.task_of(name_at(self.row, 3)).is_some() {
             "{5}the plan has no resource of this name; its resources:{resources}"
@@ -66,7 +63,6 @@ impl RefusedRecord<'_> {
         }
     }
 
-    // R6
     fn shape(&self) -> &'static str {
         let has_job = !self.has(3, b"-") && !self.has(4, b"-");
         let has_res = !self.has(5, b"-");
@@ -97,7 +93,6 @@ impl RefusedRecord<'_> {
         }
     }
 
-    // The field that is wrong, in front of what is said of it.
     fn write_field<W: Write>(&self, f: &mut Formatter<W>, i: usize) -> fmt::Result {
         let shown = Shown(field(self.row, i));
         write!(f, "field {} [{shown}]: ", i.saturating_add(1))
@@ -108,7 +103,6 @@ impl RefusedRecord<'_> {
         (3..5).find(|i| self.has(*i, b"-") == is_none).unwrap_or(5)
     }
 
-    // What is in a hole.
     fn fill<W: Write>(&self, f: &mut Formatter<W>, hole: &str) -> fmt::Result {
         let plan = self.plan;
         match hole {

@@ -64,7 +64,6 @@ pub struct ResourceNotes {
     pub counts: ResourceCounts,
 }
 
-// The queue after a row on the resource.
 fn requeue(queue: &mut Queue, row: Numbered)
     ensures { (is_request row.row.kind ≡ true → length queue.old.items < MOST_QUEUED) → queue.new.items ≡ if is_request row.row.kind then queue.old.items ++ row ∷ [] else if is_release row.row.kind then drop 1 queue.old.items else queue.old.items }
 {
@@ -79,7 +78,6 @@ fn requeue(queue: &mut Queue, row: Numbered)
     }
 }
 
-// The last change after a row on the resource.
 fn last_after(last: Option<Numbered>, row: Numbered) -> Option<Numbered>
     ensures { result ≡ if is_change row.row.kind then Some row else last }
 {
@@ -90,7 +88,6 @@ fn last_after(last: Option<Numbered>, row: Numbered) -> Option<Numbered>
 }
 
 impl ResourceNotes {
-    // The notes after a row on the resource.
     #[inline(never)]
     fn note(&mut self, row: Numbered)
         ensures { (plan : PlanModel) (rows : List TraceRow) (g : ℕ) → IsPlan plan → IsRunStart plan (rows ++ row.row ∷ []) → is_on g row.row.res ≡ true → row.number ≡ length rows + 1 → IsNoted rows g self.old → IsNoted (rows ++ row.row ∷ []) g self.new }
@@ -101,7 +98,6 @@ impl ResourceNotes {
         self.counts.note(row.row, before, self.queue.len());
     }
 
-    // Whether the job locked the resource, and hasn't unlocked it.
     fn is_locked_by(&self, job: JobId) -> bool
         ensures { result ≡ is_locker job self.now.last }
     {
@@ -111,7 +107,6 @@ impl ResourceNotes {
         }
     }
 
-    // Whether the job requested the resource, and hasn't released it.
     fn is_queued(&self, job: JobId) -> bool
         ensures { result ≡ list_any (is_by job) self.now.queue.items }
     {
@@ -154,7 +149,6 @@ fn resources_of(alloc: Global, plan: &Plan) -> Result<Vec<ResourceNotes>, Memory
     Ok(resources)
 }
 
-// What is noted of each resource after one row more, which is legal.
 fn note_row(resources: &mut Vec<ResourceNotes>, row: Numbered)
     ensures { (plan : PlanModel) (rows : List TraceRow) → IsPlan plan → IsRunStart plan (rows ++ row.row ∷ []) → row.number ≡ length rows + 1 → AreResourcesNoted plan rows resources.old.items → AreResourcesNoted plan (rows ++ row.row ∷ []) resources.new.items }
 {
@@ -196,7 +190,6 @@ impl Notes {
         self.resources.iter().any(|notes| notes.is_used_by(job))
     }
 
-    // Whether the row opens a critical section inside another.
     fn nests(&self, row: Row) -> bool
         ensures { result ≡ (is_opening row.kind && option_map_or (λ j. list_any (λ notes. is_user j notes.last notes.queue.items) self.now.resources.items) row.job false) }
     {

@@ -3,14 +3,14 @@ ghost use Rattle.std.specs.Prelude.{◌≡◌};
 
 use crate::causes::Cause;
 use crate::exercise::{is_job_of, units_done};
-use crate::notes::{Notes, Numbered};
+use crate::notes::Numbered;
 use crate::rows::{JobText, Line, RowLine, RowText, Size};
 use msrp_advice::{Count, res_name};
 use msrp_levels::Levels;
 use msrp_plan::{Fault, JobId, Kind, Plan, ResId, Row, Rule, TextVersion};
 use std::fmt::{self, Formatter, Write};
 
-fn sentence(rule: Rule) -> &'static str {
+pub(crate) fn sentence(rule: Rule) -> &'static str {
     match rule {
         Rule::A1 => "rule A1: row out of turn",
         Rule::A2 => "rule A2: the job is not one of this core",
@@ -24,7 +24,7 @@ fn sentence(rule: Rule) -> &'static str {
 }
 
 /// Why a row is refused, in words: which row it is, the rule, what was expected, and the facts that
-/// decide it. Rows are shown as in a trace of this version.
+/// decide it.
 #[derive(Clone, Copy)]
 pub struct Why<'a> {
     plan: &'a Plan,
@@ -37,10 +37,12 @@ pub struct Why<'a> {
 }
 
 impl<'a> Why<'a> {
+    /// Rows are shown as in a trace of this version. Without one, the row was fed: it is no record
+    /// of a text, and no notes and no state are kept of it.
     pub fn new(
         plan: &'a Plan,
         levels: &'a Levels<'a>,
-        version: TextVersion,
+        version: Option<TextVersion>,
         cause: &'a Cause,
     ) -> Why<'a>
         requires { levels.now ≡ plan.now }
@@ -48,23 +50,9 @@ impl<'a> Why<'a> {
         Why {
             plan,
             levels,
-            version,
+            version: version.unwrap_or(TextVersion::V2),
             cause,
-            is_record: true,
-        }
-    }
-
-    /// The same for a row that is no record of a text, and of which no notes and no state are
-    /// kept.
-    pub fn of_fed(plan: &'a Plan, levels: &'a Levels<'a>, cause: &'a Cause) -> Why<'a>
-        requires { levels.now ≡ plan.now }
-    {
-        Why {
-            plan,
-            levels,
-            version: TextVersion::V2,
-            cause,
-            is_record: false,
+            is_record: version.is_some(),
         }
     }
 
@@ -72,7 +60,6 @@ impl<'a> Why<'a> {
         RowLine(title, self.plan, self.version, row)
     }
 
-    // A1: what is wrong with the row.
     fn write_misplaced<W: Write>(&self, f: &mut Formatter<W>, tick: u32) -> fmt::Result {
         let cores = self.plan.cores();
         let (own, core) = (self.cause.row.tick, self.cause.row.core.0);
@@ -88,7 +75,6 @@ impl<'a> Why<'a> {
         }
     }
 
-    // A1: the cores that have a row of the tick still to come.
     fn write_turns<W: Write>(&self, f: &mut Formatter<W>, tick: u32) -> fmt::Result {
         let turns = &self.cause.turns;
         write!(f, "expected: a row of tick {tick} from ")?;
@@ -103,7 +89,6 @@ impl<'a> Why<'a> {
         write!(f, "\n{}", self.line("previous row:", self.cause.notes.last))
     }
 
-    // A2: the task's core and jobs.
     fn write_owner<W: Write>(&self, f: &mut Formatter<W>) -> fmt::Result {
         let plan = self.plan;
         match self.cause.row.job {
@@ -120,7 +105,6 @@ impl<'a> Why<'a> {
         }
     }
 
-    // A job with what decides whether it runs.
     fn write_job<W: Write>(
         &self,
         f: &mut Formatter<W>,
@@ -139,7 +123,6 @@ impl<'a> Why<'a> {
         }
     }
 
-    // A3: the job that was found, the job that runs, the head and the ceiling.
     fn write_choice<W: Write>(&self, f: &mut Formatter<W>) -> fmt::Result {
         let Row { core, job, .. } = self.cause.row;
         match job {
@@ -158,7 +141,6 @@ impl<'a> Why<'a> {
         self.write_uses(f)
     }
 
-    // A4: the job, and how far it is.
     fn write_progress<W: Write>(&self, f: &mut Formatter<W>) -> fmt::Result {
         self.write_job(f, "job", self.cause.row.job)?;
         match (self.cause.state, self.cause.row.job) {
@@ -187,13 +169,8 @@ impl<'a> Why<'a> {
 
     // A resource of the core that a job holds or awaits since a row, and what that does to the
     // core's ceiling.
-    fn write_use<W: Write>(
-        &self,
-        f: &mut Formatter<W>,
-        res: ResId,
-        since: Numbered,
-    ) -> fmt::Result {
-        let (name, row) = (res_name(self.plan, res), since.row);
+    fn write_use<W: Write>(&self, f: &mut Formatter<W>, res: ResId, at: Numbered) -> fmt::Result {
+        let (name, row) = (res_name(self.plan, res), at.row);
         if let Some(job) = row.job {
             write!(f, "{} ", JobText(self.plan, job))?;
         }
@@ -202,7 +179,7 @@ impl<'a> Why<'a> {
             Kind::Queue => ("holds", ", requested at"),
             _ => ("has held", " since"),
         };
-        let (tick, number) = (row.tick, since.number);
+        let (tick, number) = (row.tick, at.number);
         write!(f, "{verb} {name}{link} tick {tick} (row {number})")?;
         if res.0 >= self.plan.resources() || row.core.0 >= self.plan.cores() {
             return writeln!(f);
@@ -223,7 +200,6 @@ impl<'a> Why<'a> {
         })
     }
 
-    // A5: the queue, in order, and the last release.
     fn write_queue<W: Write>(&self, f: &mut Formatter<W>, res: ResId) -> fmt::Result {
         let name = res_name(self.plan, res);
         let Some(notes) = self.cause.notes.resources.get(res.0 as usize) else {
@@ -254,7 +230,6 @@ impl<'a> Why<'a> {
         Ok(())
     }
 
-    // The facts that decide.
     fn write_facts<W: Write>(&self, f: &mut Formatter<W>, tick: u32) -> fmt::Result {
         let (cause, plan) = (self.cause, self.plan);
         match (cause.fault.rule, cause.row.res) {
@@ -313,24 +288,5 @@ impl fmt::Display for RefusedRow {
             _ => "a row of this kind has another job, resource or queue length",
         };
         writeln!(f, "row {number}: error R{code}: {reason}")
-    }
-}
-
-/// That rows are missing, in words: how many are expected and found, and the last of them. Rows are
-/// shown as in a trace of this version.
-#[derive(Clone, Copy)]
-pub struct Missing<'a> {
-    pub plan: &'a Plan,
-    pub version: TextVersion,
-    pub notes: &'a Notes,
-}
-
-impl fmt::Display for Missing<'_> {
-    fn fmt<W: Write>(&self, f: &mut Formatter<W>) -> fmt::Result {
-        let (plan, notes) = (self.plan, self.notes);
-        let (size, found) = (Size(plan), Count(u128::from(notes.rows), "row"));
-        let last = RowLine("last row:", plan, self.version, notes.last);
-        writeln!(f, "{}", sentence(Rule::A6))?;
-        write!(f, "expected: {size}\nfound: {found}\n{last}")
     }
 }

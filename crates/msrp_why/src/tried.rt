@@ -1,35 +1,34 @@
-//! What a run exercised, in words.
+//! What the rows of a trace without a fault say, in words.
 
 use crate::exercise::{ResourceCounts, TurnCounts};
 use crate::notes::Notes;
+use crate::rows::{RowLine, Size};
+use crate::telling::sentence;
 use msrp_advice::{Count, res_name};
-use msrp_plan::{Plan, ResId};
+use msrp_plan::{Plan, ResId, Rule, TextVersion};
 use std::fmt::{self, Formatter, Write};
 
-/// What a run exercised, in words: what its turns and the rows on each resource met, and what none
-/// met.
+/// What rows without a fault say, in words: what a legal run exercised and what it didn't; or that
+/// rows are missing, how many are expected and found, and the last of them. Rows are shown as in a
+/// trace of this version.
 #[derive(Clone, Copy)]
-pub struct Exercise<'a> {
-    pub plan: &'a Plan,
-    pub notes: &'a Notes,
-}
+pub struct Ended<'a>(pub &'a Plan, pub TextVersion, pub &'a Notes);
 
 fn write_turns<W: Write>(f: &mut Formatter<W>, n: TurnCounts) -> fmt::Result {
     let blocked = Count(u128::from(n.kept), "turn");
     writeln!(f, "jobs finished: {}", n.finished)?;
     writeln!(f, "jobs finished after their deadline: {}", n.late)?;
-    write!(f, "jobs finished exactly at their deadline: ")?;
-    write!(
+    writeln!(
         f,
-        "{}\nceiling blocked a ready job: {blocked}, ",
+        "jobs finished exactly at their deadline: {}",
         n.at_deadline
     )?;
+    write!(f, "ceiling blocked a ready job: {blocked}, ")?;
     writeln!(f, "{} with level = ceiling", n.at_ceiling)?;
     writeln!(f, "preemptions: {}", n.preempted)?;
     writeln!(f, "nested critical sections: {}", n.nested)
 }
 
-// What no turn met.
 fn write_unmet_turns<W: Write>(f: &mut Formatter<W>, n: TurnCounts) -> fmt::Result {
     let ceiling = match n.kept {
         0 => "ceiling blocking",
@@ -49,15 +48,14 @@ fn write_unmet_turns<W: Write>(f: &mut Formatter<W>, n: TurnCounts) -> fmt::Resu
     Ok(())
 }
 
-impl<'a> Exercise<'a> {
+impl<'a> Ended<'a> {
     // The name of a resource, whether it is global, and what the rows on it met.
     fn resource(&self, res: ResId) -> (&'a str, bool, ResourceCounts) {
-        let is_global = res.0 < self.plan.resources() && self.plan.is_global(res);
-        let counts = match self.notes.resources.get(res.0 as usize) {
-            Some(notes) => notes.counts,
-            None => ResourceCounts::default(),
-        };
-        (res_name(self.plan, res), is_global, counts)
+        let Ended(plan, _, notes) = *self;
+        let is_global = res.0 < plan.resources() && plan.is_global(res);
+        let noted = notes.resources.get(res.0 as usize);
+        let counts = noted.map_or(ResourceCounts::default(), |noted| noted.counts);
+        (res_name(plan, res), is_global, counts)
     }
 
     fn write_met<W: Write>(&self, f: &mut Formatter<W>, res: ResId) -> fmt::Result {
@@ -72,7 +70,6 @@ impl<'a> Exercise<'a> {
         writeln!(f, "in a later tick: {}", n.later)
     }
 
-    // What no row on a resource met.
     fn write_unmet<W: Write>(&self, f: &mut Formatter<W>, res: ResId) -> fmt::Result {
         let (name, is_global, n) = self.resource(res);
         let (what, end) = match (n.free, n.joined, n.at_once) {
@@ -84,16 +81,28 @@ impl<'a> Exercise<'a> {
         };
         writeln!(f, "not exercised: {what} {name}{end}")
     }
+
+    fn write_missing<W: Write>(&self, f: &mut Formatter<W>) -> fmt::Result {
+        let Ended(plan, version, notes) = *self;
+        let (size, found) = (Size(plan), Count(u128::from(notes.rows), "row"));
+        let last = RowLine("last row:", plan, version, notes.last);
+        writeln!(f, "{}", sentence(Rule::A6))?;
+        write!(f, "expected: {size}\nfound: {found}\n{last}")
+    }
 }
 
-impl fmt::Display for Exercise<'_> {
+impl fmt::Display for Ended<'_> {
     fn fmt<W: Write>(&self, f: &mut Formatter<W>) -> fmt::Result {
-        write_turns(f, self.notes.turns)?;
-        for res in 0..self.plan.resources() {
+        let Ended(plan, _, notes) = *self;
+        if u64::from(notes.rows) < u64::from(plan.cores()) * u64::from(plan.ticks()) {
+            return self.write_missing(f);
+        }
+        write_turns(f, notes.turns)?;
+        for res in 0..plan.resources() {
             self.write_met(f, ResId(res))?;
         }
-        write_unmet_turns(f, self.notes.turns)?;
-        for res in 0..self.plan.resources() {
+        write_unmet_turns(f, notes.turns)?;
+        for res in 0..plan.resources() {
             self.write_unmet(f, ResId(res))?;
         }
         Ok(())

@@ -1,15 +1,20 @@
 use Rattle.std.proofs.Common.{◌≡◌, ◌∙◌}
-use Rattle.msrp_plan.proofs.Common.{rules, Err, ap, refl}
-use Rattle.msrp_text.specs.Records.{csv_records}
-use Rattle.msrp_view_engine.proofs.Common.{Told, found_in, rows_of, trace_fault_of, unopened, verdict_on}
-use Rattle.msrp_view_engine.proofs.Answering.{err-unread}
-use Rattle.msrp_view_engine.proofs.ReadThrough.{error-read}
+use Rattle.msrp_plan.proofs.Common.{rules, Err, Ok, ap, inr, sym}
+use Rattle.msrp_view_engine.proofs.Common.{csv_records, found_in, found_within, rows_of, verdict_on}
+use Rattle.msrp_view_engine.proofs.Answering.{err-unread, ok-unread}
 use Rattle.msrp_view_engine.proofs.view.picture_of.Goals as goal
 
-pub returns-in_err-rows-clause-found : goal.returns-in_err-rows-clause-found
-returns-in_err-rows-clause-found g c = λ bytes known.
-    let error = c.in_err-rows.field-0.0 in
-    let gives : c.from_residual.result ≡ Err (trace_fault_of error) = search rules in
-    err-unread _ _ _ _
-    (error-read (rows_of c.args.plan.now (csv_records bytes)) error (Err (trace_fault_of error)) _ (unopened g.T.Read.remaining c.args.plan.now (csv_records bytes) error (c.in_err-rows.ensures.opens bytes known)) (ap (λ (told : Told). told.refusal)) refl)
-    gives (λ rows. ap found_in gives ∙ ap (verdict_on c.args.plan.now) rows)
+pub returns-in_default-clause-found : goal.returns-in_default-clause-found
+returns-in_default-clause-found g c = λ bytes known. inr (inr (ap (found_within c.args.plan.now (rows_of c.args.plan.now (csv_records bytes))) (sym c.in_default.is ∙ c.window_of.ensures)))
+
+pub returns-in_err-trace-clause-found : goal.returns-in_err-trace-clause-found
+returns-in_err-trace-clause-found g c = λ bytes known.
+    let gives : c.from_residual.result ≡ Err c.in_err-trace.field-0.0 = search rules in
+    let window = ap (found_within c.args.plan.now (rows_of c.args.plan.now (csv_records bytes))) (sym c.in-Some.is ∙ c.window_of.ensures) in
+    err-unread _ _ _ _ (c.in_err-trace.ensures.rows bytes known) gives (λ rows. ap found_in gives ∙ (ap (verdict_on c.args.plan.now) rows ∙ window))
+
+pub returns-clause-found : goal.returns-clause-found
+returns-clause-found g c = λ bytes known.
+    let window = ap (found_within c.args.plan.now (rows_of c.args.plan.now (csv_records bytes))) (sym c.in-Some.is ∙ c.window_of.ensures) in
+    let audited : Ok c.in_ok-found.found ≡ verdict_on c.args.plan.now (Ok c.in_ok-trace.field-0.trace.rows.items) = search rules in
+    ok-unread _ _ _ _ (c.in_ok-trace.ensures.rows bytes known) (λ rows. audited ∙ (ap (verdict_on c.args.plan.now) rows ∙ window))

@@ -3,10 +3,15 @@ use Rattle.msrp_view_engine.proofs.Common.{IsJudged}
 use Rattle.msrp_view_engine.proofs.Explaining.{judged-explained, refused-explained}
 use Rattle.msrp_view_engine.proofs.why.explain_rows.Goals as goal
 
-pub returns-in-Ok-clause-explained : goal.returns-in-Ok-clause-explained
-returns-in-Ok-clause-explained g c = λ told known.
+pub returns-in-Row-clause-explained : goal.returns-in-Row-clause-explained
+returns-in-Row-clause-explained g c = λ told known.
     let judged = subst (IsJudged c.args.plan.now told) c.in-Ok.is (c.judge_rows.ensures.found told known) in
-    judged-explained c.args.plan.now told c.in-Ok.judged c.words_on.result judged c.words_on.ensures.found c.words_on.ensures.memory
+    judged-explained c.args.plan.now told c.in-Ok.judged c.words_with.result judged c.words_with.ensures.found c.words_with.ensures.memory
+
+pub returns-clause-explained : goal.returns-clause-explained
+returns-clause-explained g c = λ told known.
+    let judged = subst (IsJudged c.args.plan.now told) c.in-Ok.is (c.judge_rows.ensures.found told known) in
+    judged-explained c.args.plan.now told c.in-Ok.judged c.words_with-in-End.result judged c.words_with-in-End.ensures.found c.words_with-in-End.ensures.memory
 
 pub returns-in-Err-clause-explained : goal.returns-in-Err-clause-explained
 returns-in-Err-clause-explained g c = λ told known.

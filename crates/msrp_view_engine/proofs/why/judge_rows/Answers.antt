@@ -22,28 +22,17 @@ returns-in-Broken-clause-found g c = λ told known.
     let good = subst (λ (p : PlanModel). fault_in p i.0 ≡ None) c.requires.plan (came-good g.T.Read.remaining c.args.rows.now c.loop-notes.rows i.0 i.1) in
     let judged = subst (λ r. IsJudged c.loop-notes.rows.auditor.plan i.0 r c.next_with_state.new.self) is (e.judged i.0 i.1.fed i.1.fault) in
     let at = subst (λ (p : PlanModel). IsBroken p i.0 row broken.fault broken.expected c.next_with_state.new.self.auditor) plan judged in
-    let here = subst (λ (a : AuditorModel). IsBroken c.args.plan.now i.0 row broken.fault broken.expected a) (sym c.auditor.ensures) at in
+    let here = subst (λ (a : AuditorModel). IsBroken c.args.plan.now i.0 row broken.fault broken.expected a) (sym c.auditor-auditor.ensures) at in
     let more = read-row told i.0 _ _ (row_told c.next_with_state.result) row (i.1.read told known) e.gives (ap row_told is) in
     let seen = subst (λ r. IfCame (λ (x : Row). IsStateAfter c.loop-notes.rows.auditor.plan i.0 x.core.0 c.next_with_state.new.self.state) r) is (e.state i.0 i.1.fed i.1.fault) in
-    let state = subst (IsStateAfter c.args.plan.now i.0 row.core.0) (sym c.state-in-Broken.ensures) (subst (λ (p : PlanModel). IsStateAfter p i.0 row.core.0 c.next_with_state.new.self.state) plan seen) in
+    let state = subst (IsStateAfter c.args.plan.now i.0 row.core.0) (sym c.state-state.ensures) (subst (λ (p : PlanModel). IsStateAfter p i.0 row.core.0 c.next_with_state.new.self.state) plan seen) in
     cause-found c.args.plan.now told i.0 row _ broken.fault c.cause_of-cause.result more at.fault (c.cause_of-cause.ensures.cause i.0 good here i.2 state)
 
 pub returns-in-Broken-clause-line : goal.returns-in-Broken-clause-line
 returns-in-Broken-clause-line g c = λ bytes read.
-    let i = c.loop-notes.invariant in
-    let e = c.next_with_state.ensures in
-    let row = c.in-Broken.row in
-    let broken = c.in-Broken.broken in
-    let plan = i.1.plan ∙ c.requires.plan in
     let is = c.in_ok-row.was ∙ ap (λ x. Ok x) c.in-Broken.is in
-    let good = subst (λ (p : PlanModel). fault_in p i.0 ≡ None) c.requires.plan (came-good g.T.Read.remaining c.args.rows.now c.loop-notes.rows i.0 i.1) in
-    let judged = subst (λ r. IsJudged c.loop-notes.rows.auditor.plan i.0 r c.next_with_state.new.self) is (e.judged i.0 i.1.fed i.1.fault) in
-    let at = subst (λ (p : PlanModel). IsBroken p i.0 row broken.fault broken.expected c.next_with_state.new.self.auditor) plan judged in
-    let here = subst (λ (a : AuditorModel). IsBroken c.args.plan.now i.0 row broken.fault broken.expected a) (sym c.auditor.ensures) at in
-    let seen = subst (λ r. IfCame (λ (x : Row). IsStateAfter c.loop-notes.rows.auditor.plan i.0 x.core.0 c.next_with_state.new.self.state) r) is (e.state i.0 i.1.fed i.1.fault) in
-    let state = subst (IsStateAfter c.args.plan.now i.0 row.core.0) (sym c.state-in-Broken.ensures) (subst (λ (p : PlanModel). IsStateAfter p i.0 row.core.0 c.next_with_state.new.self.state) plan seen) in
-    let behind = subst (λ r. HasReadBehind g.T.Read.remaining bytes r c.next_with_state.new.self.rows) (ap row_told is) (e.lines bytes (i.3 bytes read)) in
-    line-found c.args.plan.now i.0 row broken.fault c.cause_of-cause.result bytes _ at.fault (c.cause_of-cause.ensures.cause i.0 good here i.2 state) c.cause_of-cause.ensures.line
+    let behind = subst (λ r. HasReadBehind g.T.Read.remaining bytes r c.next_with_state.new.self.rows) (ap row_told is) (c.next_with_state.ensures.lines bytes (c.loop-notes.invariant.3 bytes read)) in
+    line-found c.in-Broken.broken.fault c.cause_of-cause.result bytes _ c.cause_of-cause.ensures.kept.0 c.cause_of-cause.ensures.kept.1
     (c.line_of_row-line.ensures bytes (subst (λ t. HasReadIn g.T.Read.remaining bytes t) (sym c.reader.ensures) behind))
 
 -- ---- the end, and an error of the reader
@@ -69,8 +58,8 @@ returns-in-End-clause-found g c = λ told known.
     let is = c.in_ok-row.was ∙ ap (λ x. Ok x) c.in-End.is in
     let good = subst (λ (p : PlanModel). fault_in p i.0 ≡ None) c.requires.plan (came-good g.T.Read.remaining c.args.rows.now c.loop-notes.rows i.0 i.1) in
     let judged = subst (λ r. IsJudged c.loop-notes.rows.auditor.plan i.0 r c.next_with_state.new.self) is (e.judged i.0 i.1.fed i.1.fault) in
-    let answer = rw c.auditor-in-End.ensures at c.end.ensures i.0 judged.0 in
-    end-found c.args.plan.now told i.0 _ _ (row_told c.next_with_state.result) c.end.result c.loop-notes.notes (i.1.read told known) e.gives (ap row_told is) good
+    let answer = rw c.auditor.ensures at c.end-verdict.ensures i.0 judged.0 in
+    end-found c.args.plan.now told i.0 _ _ (row_told c.next_with_state.result) c.end-verdict.result c.loop-notes.notes (i.1.read told known) e.gives (ap row_told is) good
     (answer ∙ ap (λ (p : PlanModel). answer_of (verdict p i.0)) (e.plan ∙ plan)) i.2
 
 -- ---- a legal row

@@ -5,7 +5,7 @@ use Rattle.msrp_trace.specs.Reading.{rows_of}
 use Rattle.msrp_engine.specs.Answered.{OrUnread}
 use Rattle.msrp_engine.specs.MadeTexts.{found_in}
 use Rattle.msrp_view_engine.specs.Answers.{rows_read, verdict_on}
-use Rattle.msrp_view_engine.proofs.page.page_of.Goals as goal
+use Rattle.msrp_view_engine.proofs.view.page_of.Goals as goal
 
 pub returns-clause-found : goal.returns-clause-found
 returns-clause-found g c = λ bytes known.

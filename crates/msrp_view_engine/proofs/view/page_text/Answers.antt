@@ -3,7 +3,7 @@ use Rattle.msrp_plan.proofs.Common.{rules, Err, ap, refl, subst}
 use Rattle.msrp_faults.specs.Outcomes.{answered}
 use Rattle.msrp_view_engine.specs.Answers.{Tells}
 use Rattle.msrp_view_engine.proofs.Answering.{err-unread, ok-unread}
-use Rattle.msrp_view_engine.proofs.page.page_text.Goals as goal
+use Rattle.msrp_view_engine.proofs.view.page_text.Goals as goal
 
 pub returns-in_err-made-clause-answer : goal.returns-in_err-made-clause-answer
 returns-in_err-made-clause-answer g c = λ plan_bytes trace_bytes plan trace.
