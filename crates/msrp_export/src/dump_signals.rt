@@ -5,42 +5,29 @@ use crate::signals::Track;
 use msrp_plan::{Plan, ResId};
 use std::fmt;
 
-/// What the values of a signal are.
-#[derive(Clone, Copy)]
-pub(crate) enum Values {
-    Text,
-    Flag,
-    Number,
-}
+/// A signal of a track: its letter in a dump, what its name ends with, and the kind of its values.
+pub(crate) type Signal = (char, &'static str, Kind);
 
-impl Values {
-    /// Their type in a dump, and the flags with which GTKWave draws them.
-    pub(crate) fn kind(self) -> (&'static str, &'static str) {
-        match self {
-            Values::Text => ("string 1", "@20"),
-            Values::Flag => ("wire 1", "@28"),
-            Values::Number => ("real 64", "@8420"),
-        }
-    }
-}
+/// The type of values in a dump, and the flags with which GTKWave draws them.
+type Kind = (&'static str, &'static str);
 
-/// A signal of a track: its letter in a dump, what its name ends with, and what its values are.
-pub(crate) type Signal = (char, &'static str, Values);
+const TEXT: Kind = ("string 1", "@20");
+
+const FLAG: Kind = ("wire 1", "@28");
+
+const NUMBER: Kind = ("real 64", "@8420");
 
 const OF_CORE: &[Signal] = &[
-    ('k', "action", Values::Text),
-    ('j', "job", Values::Text),
-    ('g', "resource", Values::Text),
+    ('k', "action", TEXT),
+    ('j', "job", TEXT),
+    ('g', "resource", TEXT),
 ];
 
-const OF_TASK: &[Signal] = &[('t', "state", Values::Text), ('l', "late", Values::Flag)];
+const OF_TASK: &[Signal] = &[('t', "state", TEXT), ('l', "late", FLAG)];
 
-const OF_LOCAL: &[Signal] = &[('h', "holder", Values::Text)];
+const OF_LOCAL: &[Signal] = &[('h', "holder", TEXT)];
 
-const OF_GLOBAL: &[Signal] = &[
-    ('h', "holder", Values::Text),
-    ('q', "queue_length", Values::Number),
-];
+const OF_GLOBAL: &[Signal] = &[('h', "holder", TEXT), ('q', "queue_length", NUMBER)];
 
 /// Whether tasks of at least two cores use a resource: only for such a one jobs queue.
 pub(crate) fn has_queue(plan: &Plan, res: ResId) -> bool {

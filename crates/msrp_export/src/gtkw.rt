@@ -19,18 +19,15 @@ msrp.fault
 msrp.faulty_row
 ";
 
-// An empty line between groups of signals.
-const GAP: &str = "@200\n-\n";
-
-/// Writes the whole save file of a legal run.
+/// Writes the whole save file of a legal run, with an empty line between groups of signals.
 pub(crate) fn write_head(text: &mut String, plan: &Plan) -> Written {
     text.push_str(HEAD)?;
     for core in 0..plan.cores() {
-        text.push_str(GAP)?;
+        text.push_str("@200\n-\n")?;
         write_track(text, plan, "cores", Track::Core(CoreId(core)))?;
         write_tasks(text, plan, CoreId(core))?;
     }
-    text.push_str(GAP)?;
+    text.push_str("@200\n-\n")?;
     for res in 0..plan.resources() {
         write_track(text, plan, "resources", Track::Resource(ResId(res)))?;
     }
@@ -49,8 +46,7 @@ fn write_tasks(text: &mut String, plan: &Plan, core: CoreId) -> Written {
 // Writes the signals of a track in a scope.
 fn write_track(text: &mut String, plan: &Plan, scope: &str, track: Track) -> Written {
     let name = TrackName(plan, track);
-    for (_, ending, values) in signals_of(plan, track) {
-        let (_, flags) = values.kind();
+    for (_, ending, (_, flags)) in signals_of(plan, track) {
         writeln!(text, "{flags}\nmsrp.{scope}.{name}_{ending}")?;
     }
     Ok(())

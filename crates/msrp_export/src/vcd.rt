@@ -34,8 +34,7 @@ pub(crate) fn write_track(text: &mut String, plan: &Plan, track: Track) -> Writt
         _ => {}
     }
     let (name, number) = (TrackName(plan, track), track.number());
-    for (letter, ending, values) in signals_of(plan, track) {
-        let (kind, _) = values.kind();
+    for (letter, ending, (kind, _)) in signals_of(plan, track) {
         writeln!(text, "$var {kind} {letter}{number} {name}_{ending} $end")?;
     }
     Ok(())

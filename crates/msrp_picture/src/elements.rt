@@ -39,8 +39,8 @@ const LEGEND: &str =
 <use href='#completion' x='248' y='86'/><text x='260' y='86'>completion</text>\
 <g class='r1'><rect x='340' y='77' width='16' height='10'/></g><text x='360' y='86'>first in the queue of a resource, +n: n wait behind it</text>\n";
 
-// What comes before the names of tasks without a lane.
-const LEFT_OUT: &str = "without a job in these ticks:";
+// How many names of tasks without a lane are on a line.
+const HIDDEN: u64 = 7;
 
 // How a block looks: in the queue of a resource and in a critical section it has the resource's colour.
 fn class_of(block: &Block) -> &'static str {
@@ -93,23 +93,6 @@ fn depth_of(plan: &Plan, task: TaskId) -> u64 {
         }
     }
     most
-}
-
-// The lines that name the tasks without a lane.
-fn left_out(scene: &Scene<'_>, layout: &Layout) -> Result<Vec<String>, AllocError> {
-    let mut lines: Vec<String> = Vec::new(scene.alloc);
-    for task in 0..scene.plan.tasks() {
-        if layout.room(Lane::Task(TaskId(task))).is_none() {
-            if lines.last().is_none_or(|line| line.len() > 100) {
-                let first = if lines.is_empty() { LEFT_OUT } else { "" };
-                lines.push(String::from_str(scene.alloc, first)?)?;
-            }
-            if let Some(line) = lines.last_mut() {
-                write!(line, " {}", scene.plan.task_name(TaskId(task)))?;
-            }
-        }
-    }
-    Ok(lines)
 }
 
 #[derive(Drop)]
@@ -301,6 +284,21 @@ impl Canvas<'_> {
         self.note("caption", 20, 42, &words)
     }
 
+    // The tasks without a lane, some on a line below all lanes.
+    fn left_out(&mut self) -> Written {
+        let y = self.layout.bottom;
+        if !self.layout.hidden.is_empty() {
+            self.note("without", 20, y, &"without a job in these ticks:")?;
+        }
+        for (place, task) in self.layout.hidden.iter().enumerate() {
+            let (column, line) = (place as u64 % HIDDEN, place as u64 / HIDDEN + 1);
+            let y = y.saturating_add(line.saturating_mul(14));
+            let name = task_name(self.scene.plan, *task);
+            self.note("without", column * 110 + 20, y, &name)?;
+        }
+        Ok(())
+    }
+
     // Why the verdict is a fault: the rule in words, the row that violates it, and the expected one.
     fn reasons(&mut self, shapes: &Shapes, rule: &str) -> Written {
         if self.scene.found.is_err() {
@@ -326,9 +324,11 @@ impl Canvas<'_> {
 /// A picture in SVG, with the sentence of a violated rule.
 pub(crate) fn svg(scene: &Scene<'_>, shapes: &Shapes, rule: &str) -> Result<String, AllocError> {
     let layout = &Layout::of(scene, shapes)?;
-    let (right, without) = (layout.right(), left_out(scene, layout)?);
+    let right = layout.right();
     let width = right.saturating_add(if right > WIDE { LEFT } else { 20 });
-    let lines = (without.len() as u64).saturating_mul(14);
+    let lines = (layout.hidden.len() as u64)
+        .div_ceil(HIDDEN)
+        .saturating_mul(14);
     let height = layout.bottom.saturating_add(lines).saturating_add(10);
     let text = String::new(scene.alloc);
     let mut canvas = Canvas {
@@ -346,12 +346,7 @@ pub(crate) fn svg(scene: &Scene<'_>, shapes: &Shapes, rule: &str) -> Result<Stri
     }
     canvas.blocks(shapes)?;
     canvas.marks(shapes)?;
-    for (place, line) in without.iter().enumerate() {
-        let y = layout
-            .bottom
-            .saturating_add((place as u64).saturating_mul(14));
-        canvas.note("without", 20, y, line)?;
-    }
+    canvas.left_out()?;
     canvas.text.push_str("</svg>\n")?;
     Ok(canvas.text)
 }

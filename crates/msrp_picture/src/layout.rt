@@ -1,6 +1,7 @@
 //! Where shapes are drawn in SVG, in its units: for each core a lane for who runs, one for its
 //! ceiling, and one for each of its tasks; below all cores a lane for each global resource. Tasks and
 //! resources without a shape are left out. The core and the task of a fault come first.
+ghost use Rattle.std.specs.Prelude.{◌<◌};
 
 use crate::scene::Scene;
 use crate::shapes::{Event, Lane, Shapes, Violation};
@@ -34,6 +35,8 @@ pub(crate) struct Layout {
     window: Window,
     pub(crate) tick_width: u64,
     pub(crate) lanes: Vec<(Lane, Room)>,
+    // The tasks without a lane.
+    pub(crate) hidden: Vec<TaskId>,
     pub(crate) bottom: u64,
 }
 
@@ -60,23 +63,23 @@ fn first_lanes(scene: &Scene<'_>, shapes: &Shapes) -> (u32, u32) {
 }
 
 // The number at this place, if numbers up to a count begin with that one, and go on with 0.
-fn number_at(place: u32, first: u32, count: u32) -> u32 {
-    ((place as u64 + first as u64) % count.max(1) as u64) as u32
+fn number_at(place: u32, first: u32, count: u32) -> u32
+    requires { place < count }
+    ensures { result < count }
+{
+    ((place as u64 + first as u64) % count as u64) as u32
 }
 
 impl Layout {
     pub(crate) fn of(scene: &Scene<'_>, shapes: &Shapes) -> Result<Layout, AllocError> {
         // The caption, the legend and the lines on the fault are above.
-        let bottom = match (scene.found, shapes.violation) {
-            (Ok(()), _) => LINES,
-            (Err(_), None) => LINES + 18,
-            (Err(_), Some(_)) => LINES + 54,
-        };
+        let is_good = scene.found.is_ok();
         let mut layout = Layout {
             window: scene.window,
             tick_width: tick_width(scene.window),
             lanes: Vec::new(scene.alloc),
-            bottom,
+            hidden: Vec::new(scene.alloc),
+            bottom: if is_good { LINES } else { LINES + 54 },
         };
         let (cores, (first, first_task)) = (scene.plan.cores(), first_lanes(scene, shapes));
         for place in 0..cores {
@@ -102,9 +105,10 @@ impl Layout {
     fn add_tasks(&mut self, plan: &Plan, shapes: &Shapes, core: CoreId, first: u32) -> Written {
         for place in 0..plan.tasks() {
             let task = TaskId(number_at(place, first, plan.tasks()));
-            let lane = Lane::Task(task);
-            if plan.core_of(task) == core && is_shown(shapes, lane) {
-                self.add(lane, 50, 18)?;
+            match is_shown(shapes, Lane::Task(task)) {
+                _ if plan.core_of(task) != core => {}
+                true => self.add(Lane::Task(task), 50, 18)?,
+                false => self.hidden.push(task)?,
             }
         }
         Ok(())

@@ -17,7 +17,7 @@ use msrp_plan::bytes::{Sink, Source};
 use msrp_plan::{Plan, Row, Trace};
 use msrp_text::read_plan;
 use msrp_trace::TraceReader;
-use msrp_why::rule_text;
+use msrp_why::sentence;
 use std::alloc::Global;
 use std::io::{Read, Write};
 
@@ -56,7 +56,7 @@ fn picture_of<T: Read>(
     drop(rows);
     let trace = gathered?;
     let found = audit(alloc, plan, &trace)?;
-    let rule = found.err().map_or("", |fault| rule_text(fault.rule));
+    let rule = found.err().map_or("", |fault| sentence(fault.rule));
     let text = draw(
         alloc,
         plan,

@@ -19,5 +19,5 @@ pub use causes::{Cause, Ground, cause_of};
 pub use exercise::{ResourceCounts, TurnCounts};
 pub use misfits::RefusedRecord;
 pub use notes::{Notes, Numbered, ResourceNotes};
-pub use telling::{Missing, RefusedRow, Why, rule_text};
+pub use telling::{Missing, RefusedRow, Why, sentence};
 pub use tried::Exercise;

@@ -11,7 +11,7 @@ use msrp_plan::{Fault, JobId, Kind, Plan, ResId, Row, Rule, TextVersion};
 use std::fmt::{self, Formatter, Write};
 
 /// A rule in words.
-pub fn rule_text(rule: Rule) -> &'static str {
+pub fn sentence(rule: Rule) -> &'static str {
     match rule {
         Rule::A1 => "rule A1: row out of turn",
         Rule::A2 => "rule A2: the job is not one of this core",
@@ -283,7 +283,7 @@ impl fmt::Display for Why<'_> {
             write!(f, " (record {}{})", u64::from(row) + 1, Line(cause.line))?;
         }
         writeln!(f, ": {}", RowText(plan, self.version, cause.row))?;
-        f.write_str(rule_text(rule))?;
+        f.write_str(sentence(rule))?;
         if rule == Rule::A1 {
             self.write_misplaced(f, tick)?;
         }
@@ -331,7 +331,7 @@ impl fmt::Display for Missing<'_> {
         let (plan, notes) = (self.plan, self.notes);
         let (size, found) = (Size(plan), Count(u128::from(notes.rows), "row"));
         let last = RowLine("last row:", plan, self.version, notes.last);
-        writeln!(f, "{}", rule_text(Rule::A6))?;
+        writeln!(f, "{}", sentence(Rule::A6))?;
         write!(f, "expected: {size}\nfound: {found}\n{last}")
     }
 }
