@@ -11,8 +11,8 @@ loop-row-preserved c =
     let old = c.loop-row.invariant in
     let upto : take (i + 1) rows ≡ take i rows ++ c.row-item.result ∷ [] = take_more rows i c.row-item.result (omega arith) ∙ ap (λ x. take i rows ++ x ∷ []) (sym c.row-item.is) in
     record {
-      plan = c.feed.ensures.plan ∙ old.plan;
-      fed = subst (λ (xs : List Row). HasFed c.feed.new.self xs) (sym upto) (c.feed.ensures.fed (take i rows) old.fed);
+      plan = c.feed-fault.ensures.plan ∙ old.plan;
+      fed = subst (λ (xs : List Row). HasFed c.feed-fault.new.self xs) (sym upto) (c.feed-fault.ensures.fed (take i rows) old.fed);
     }
 
 pub returns-clause-fed : goal.returns-clause-fed
