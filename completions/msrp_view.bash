@@ -3,7 +3,7 @@ _msrp_view() {
   local word=${COMP_WORDS[COMP_CWORD]}
   COMPREPLY=()
   if [[ $word == -* ]]; then
-    mapfile -t COMPREPLY < <(compgen -W '--text --svg --from --to --why --vcd --perfetto --html --tick --help --version' -- "$word")
+    mapfile -t COMPREPLY < <(compgen -W '--text --svg --from --to --why --vcd --gtkw --perfetto --html --tick --help --version' -- "$word")
   fi
 }
 complete -o default -F _msrp_view msrp_view

@@ -69,6 +69,10 @@ class Size:
             return 1 + self.rows()
         return {"audit": 1, "report": 1 + self.tasks, "check": self.tasks + self.resources + self.cores}[command.split()[0]]
 
+    def signals(self):
+        """How many signals a dump has."""
+        return 2 + 3 * self.cores + 2 * self.tasks + self.resources + self.shared
+
     def picture_lines(self, ticks):
         parts = -(-ticks // PART)
         return 2 + parts * (2 + 3 * self.cores + 2 * self.shared) + 1 + self.tasks + 3
@@ -115,6 +119,9 @@ def whole_dump(found, name, plan):
     answer = ask(["--vcd", str(path), str(trace)], program=VIEWER)
     whole = answer.out.startswith(b"$version ") and answer.out.endswith(b"\n#%d\n" % size.ticks)
     found.judge(answer.status == GOOD and not answer.line and whole, f"{name}, a dump", answer)
+    answer = ask(["--gtkw", str(path), str(trace)], program=VIEWER)
+    whole = answer.out.startswith(b"[size] ") and answer.out.count(b"\nmsrp.") == size.signals()
+    found.judge(answer.status == GOOD and not answer.line and whole, f"{name}, a save file", answer)
     answer = ask(["--perfetto", str(path), str(trace)], program=VIEWER)
     found.judge(answer.status == GOOD and not answer.line and are_events(answer.out), f"{name}, trace events", answer)
 

@@ -8,7 +8,7 @@ use crate::formats::Format;
 use crate::signals::Signals;
 use crate::summary::next;
 use crate::walk::{Written, begin_tick, write_end, write_head, write_tick};
-use crate::{perfetto, vcd};
+use crate::{gtkw, perfetto, vcd};
 use msrp_plan::bytes::Sink;
 use msrp_plan::{Plan, Row, Rule};
 use std::alloc::{AllocError, Global};
@@ -95,6 +95,7 @@ impl<'a> Exporter<'a> {
         }
         match self.format {
             Format::Vcd => vcd::write_fault(&mut self.text, plan, rule, row)?,
+            Format::Gtkw => gtkw::write_fault(&mut self.text, tick)?,
             Format::Perfetto => perfetto::write_fault(&mut self.text, plan, tick, rule, row)?,
         }
         write_end(&mut self.text, self.format, &self.signals, next(tick))

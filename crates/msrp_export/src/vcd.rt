@@ -2,11 +2,12 @@
 //! one microsecond. Strings are GTKWave's extension, and a queue's length is a real number, so that
 //! GTKWave can draw it as a curve.
 
-use crate::names::{FaultyRow, JobName, resource_name, state_name, task_name};
+use crate::dump_signals::{TrackName, has_queue, signals_of};
+use crate::names::{FaultyRow, JobName, resource_name, state_name};
 use crate::signals::{Change, State, Track};
 use crate::walk::Written;
 use bstr::ByteSlice;
-use msrp_plan::{Plan, Row, Rule};
+use msrp_plan::{Plan, ResId, Row, Rule, TaskId};
 use std::fmt::Write;
 
 /// What comes before the signals of the tracks.
@@ -16,34 +17,27 @@ $timescale 1 us $end
 $scope module msrp $end
 $var string 1 f0 fault $end
 $var string 1 r0 faulty_row $end
+$scope module cores $end
 ";
 
-/// What comes between the signals and the first tick.
-pub(crate) const END_OF_HEAD: &str = "$upscope $end\n$enddefinitions $end\n";
+/// What comes between the signals and the first tick: in a legal run there is no fault.
+pub(crate) const END_OF_HEAD: &str =
+    "$upscope $end\n$upscope $end\n$enddefinitions $end\n$dumpvars\ns- f0\ns- r0\n$end\n";
 
-/// Declares the signals of a track.
+/// Declares the signals of a track. Those of tasks and of resources have a scope each.
 pub(crate) fn write_track(text: &mut String, plan: &Plan, track: Track) -> Written {
-    let number = track.number();
     match track {
-        Track::Core(_) => {
-            writeln!(text, "$var string 1 k{number} core_{number}_action $end")?;
-            writeln!(text, "$var string 1 j{number} core_{number}_job $end")?;
-            writeln!(text, "$var string 1 g{number} core_{number}_resource $end")
+        Track::Task(TaskId(0)) => text.push_str("$upscope $end\n$scope module tasks $end\n")?,
+        Track::Resource(ResId(0)) => {
+            text.push_str("$upscope $end\n$scope module resources $end\n")?;
         }
-        Track::Task(task) => {
-            let name = task_name(plan, task);
-            writeln!(text, "$var string 1 t{number} task_{name}_state $end")?;
-            writeln!(text, "$var wire 1 l{number} task_{name}_late $end")
-        }
-        Track::Resource(res) => {
-            let name = resource_name(plan, Some(res));
-            writeln!(text, "$var string 1 h{number} resource_{name}_holder $end")?;
-            writeln!(
-                text,
-                "$var real 64 q{number} resource_{name}_queue_length $end"
-            )
-        }
+        _ => {}
     }
+    let (name, number) = (TrackName(plan, track), track.number());
+    for (letter, ending, (kind, _)) in signals_of(plan, track) {
+        writeln!(text, "$var {kind} {letter}{number} {name}_{ending} $end")?;
+    }
+    Ok(())
 }
 
 /// Begins a tick.
@@ -79,6 +73,7 @@ pub(crate) fn write_change(text: &mut String, change: &Change<'_>) -> Written {
                 writeln!(text, "s{} h{number}", JobName(plan, now.holder))?;
             }
             if !matches!(before, Some(State::Resource(last)) if last.queue_length == now.queue_length)
+                && has_queue(plan, ResId(number))
             {
                 writeln!(text, "r{} q{number}", now.queue_length)?;
             }

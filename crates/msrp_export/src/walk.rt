@@ -1,10 +1,9 @@
-//! One walk over all tracks for both formats: their names, what a tick changes, and the end of
-//! their
+//! One walk over all tracks for each format: their names, what a tick changes, and the end of their
 //! slices.
 
 use crate::formats::Format;
 use crate::signals::{Signals, track_at, track_count};
-use crate::{perfetto, vcd};
+use crate::{gtkw, perfetto, vcd};
 use msrp_plan::Plan;
 use std::alloc::AllocError;
 
@@ -15,7 +14,7 @@ pub(crate) type Written = Result<(), AllocError>;
 pub(crate) fn begin_tick(text: &mut String, format: Format, tick: u32) -> Written {
     match format {
         Format::Vcd => vcd::begin_tick(text, tick),
-        Format::Perfetto => Ok(()),
+        Format::Gtkw | Format::Perfetto => Ok(()),
     }
 }
 
@@ -26,6 +25,7 @@ pub(crate) fn write_tick(text: &mut String, format: Format, signals: &Signals<'_
         if let Some(track) = track_at(signals.plan, place) {
             match format {
                 Format::Vcd => vcd::write_change(text, &signals.change(track))?,
+                Format::Gtkw => {}
                 Format::Perfetto => perfetto::write_change(text, &signals.change(track))?,
             }
         }
@@ -37,6 +37,7 @@ pub(crate) fn write_tick(text: &mut String, format: Format, signals: &Signals<'_
 pub(crate) fn write_head(text: &mut String, format: Format, plan: &Plan) -> Written {
     let (head, end) = match format {
         Format::Vcd => (vcd::HEAD, vcd::END_OF_HEAD),
+        Format::Gtkw => return gtkw::write_head(text, plan),
         Format::Perfetto => (perfetto::HEAD, ""),
     };
     text.push_str(head)?;
@@ -44,6 +45,7 @@ pub(crate) fn write_head(text: &mut String, format: Format, plan: &Plan) -> Writ
         if let Some(track) = track_at(plan, place) {
             match format {
                 Format::Vcd => vcd::write_track(text, plan, track)?,
+                Format::Gtkw => {}
                 Format::Perfetto => perfetto::write_track(text, plan, track)?,
             }
         }
@@ -58,8 +60,8 @@ pub(crate) fn write_end(
     signals: &Signals<'_>,
     time: u32,
 ) -> Written {
-    if format == Format::Vcd {
-        return vcd::begin_tick(text, time);
+    if format != Format::Perfetto {
+        return begin_tick(text, format, time);
     }
     for place in 0..track_count(signals.plan) {
         if let Some(track) = track_at(signals.plan, place) {

@@ -2,6 +2,7 @@
 -- after the fault.
 use Rattle.std.specs.Prelude.{◌≡◌, ◌∷◌, ◌++◌, filter, filter_map}
 use Rattle.msrp_plan.specs.Common.{List, [], Option, Some, None, Ok, Err, length, map, ⊤, flat_map, range_with_len, resources, is_global}
+use Rattle.msrp_audit.specs.Audits.{IsDueRow}
 use Rattle.msrp_picture.specs.Types.{Block, Event, Fault, Life, PlanModel, Result, Row, Shapes, Violation, Window}
 use Rattle.msrp_picture.specs.Blocks.{merged, row_blocks}
 use Rattle.msrp_picture.specs.Lanes.{ceiling_tick, ceilings, queue_ticks, sections}
@@ -46,11 +47,18 @@ violation later (Ok good) = None
 violation [] (Err fault) = None
 violation (r ∷ rest) (Err fault) = Some (record { row = r; rule = fault.rule })
 
+-- the row is the one that is expected of the core of the violation after the legal rows
+abbrev pub IsExpected : PlanModel → List Row → Option Violation → Option Row → Type 0
+IsExpected plan legal (Some v) (Some due) = IsDueRow plan legal v.row.core.0 due
+IsExpected plan legal None (Some due) = ⊥
+IsExpected plan legal v None = ⊤
+
 -- what there is to see in the ticks of a window
 pub record AreShapes (plan : PlanModel) (legal later : List Row) (found : Result ⊤ Fault) (w : Window) (shapes : Shapes) : Type 0 where
   pub blocks : shapes.blocks.items ≡ filter (is_seen w) (blocks plan legal later (lives plan legal))
   pub events : shapes.events.items ≡ events w (lives plan legal)
   pub violation : shapes.violation ≡ violation later found
+  pub expected : IsExpected plan legal shapes.violation shapes.expected
 
 -- of these rows with that verdict
 abbrev pub AreShapesOf : PlanModel → List Row → Result ⊤ Fault → Window → Shapes → Type 0

@@ -1,11 +1,12 @@
 //! What there is to see in a picture, and the picture.
 ghost use Rattle.std.specs.Prelude.{◌≡◌, ◌++◌, filter};
 ghost use Rattle.msrp_plan.specs.Common.{IfOk, OnOk};
-ghost use Rattle.msrp_picture.specs.Shapes.{AreShapes, AreShapesOf, blocks, cores_blocks, events, lives_blocks, queues_blocks, tasks_blocks, violation};
+ghost use Rattle.msrp_picture.specs.Shapes.{AreShapes, AreShapesOf, IsExpected, blocks, cores_blocks, events, lives_blocks, queues_blocks, tasks_blocks, violation};
 ghost use Rattle.msrp_picture.specs.Windows.{IsWindow, is_seen};
 
 use crate::blocks::push_rows;
 use crate::elements::svg;
+use crate::expected::expected_row;
 use crate::gathering::gathered;
 use crate::lanes::{ceilings_of, push_ceilings, push_queue, push_sections};
 use crate::lives::{Life, lives_of};
@@ -111,15 +112,27 @@ fn violation_of(scene: &Scene<'_>) -> Option<Violation>
     }
 }
 
+// The row that is expected in place of the first that violates a rule, if there is one.
+fn expected_of(scene: &Scene<'_>, violation: Option<Violation>) -> Result<Option<Row>, Memory>
+    ensures { IfOk result (IsExpected scene.now.plan.now scene.now.rows.now violation) }
+{
+    match violation {
+        Some(Violation { row, .. }) => expected_row(scene, row),
+        None => Ok(None),
+    }
+}
+
 fn shapes_in(scene: &Scene<'_>) -> Result<Shapes, Memory>
     ensures { IfOk result (AreShapes scene.now.plan.now scene.now.rows.now scene.now.later.now scene.now.found scene.now.window) }
 {
     let lives = lives_of(scene)?;
     let blocks = blocks_of(scene, &lives)?;
+    let violation = violation_of(scene);
     Ok(Shapes {
         blocks: seen(scene, &blocks)?,
         events: events_of(scene, &lives)?,
-        violation: violation_of(scene),
+        violation,
+        expected: expected_of(scene, violation)?,
     })
 }
 
@@ -137,8 +150,9 @@ pub fn shapes_of(
     shapes_in(&Scene::of(&levels, plan, rows, found, window, alloc))
 }
 
-/// A picture of a trace with that verdict on its rows. Where no ticks are asked for and a rule is violated, the picture
-/// shows the ticks around the fault, and else those of the window.
+/// A picture of a trace with that verdict on its rows, and the sentence of a violated rule. Where no
+/// ticks are asked for and a rule is violated, the picture shows the ticks around the fault, and else
+/// those of the window.
 pub fn draw(
     alloc: Global,
     plan: &Plan,
@@ -146,6 +160,7 @@ pub fn draw(
     found: Verdict,
     asked: Asked,
     window: Window,
+    rule: &str,
 ) -> Result<Vec<u8>, Memory>
     requires { IsWindow window }
 {
@@ -155,7 +170,7 @@ pub fn draw(
     let shapes = shapes_in(&scene)?;
     let picture = match asked.style {
         Style::Text => text(&scene, &shapes)?,
-        Style::Svg => svg(&scene, &shapes)?,
+        Style::Svg => svg(&scene, &shapes, rule)?,
     };
     Ok(picture.into_bytes())
 }

@@ -1,11 +1,11 @@
 //! A picture in SVG (W3C, 2011): an element for each shape.
 
-use crate::layout::{AXIS, LEFT, Layout, Room};
+use crate::layout::{AXIS, LEFT, LINES, Layout, Room};
 use crate::scene::Scene;
 use crate::shapes::{Block, Event, Lane, Look, Shapes, Violation};
 use crate::words::{
-    Written, moment_words, res_name, say_block, say_event, say_ticks, say_verdict, say_violation,
-    task_name,
+    Written, moment_words, res_name, say_block, say_event, say_row, say_ticks, say_verdict,
+    say_violation, task_name,
 };
 use msrp_plan::{Kind, Op, Plan, TaskId};
 use std::alloc::AllocError;
@@ -19,7 +19,7 @@ const COLOURS: [&str; 7] = ["r0", "r1", "r2", "r3", "r4", "r5", "r6"];
 
 const STYLE: &str =
     "<style>text{font:10px monospace}.label{font-size:11px;font-weight:bold}.name{text-anchor:end}.tick{fill:#444;text-anchor:middle}\
-.level{fill:#444}.caption{font-size:12px}.rule{fill:#b00;font-weight:bold}rect{fill:#fff;stroke:#666;stroke-width:.7}.lane{stroke:#ccc}\
+.level{fill:#444}.caption{font-size:12px}.title{font-size:14px;font-weight:bold}.why{font-size:12px;fill:#b00}.rule{fill:#b00;font-weight:bold}rect{fill:#fff;stroke:#666;stroke-width:.7}.lane{stroke:#ccc}\
 .runs rect,.works rect{fill:#e2e6ea}.waits rect{fill:url(#hatch)}.life rect{fill:#666;stroke:none}.late rect{fill:#b00;stroke:none}\
 .ceiling rect{fill:#ddd}.r0 rect{fill:#eebc4d}.r1 rect{fill:#89cbf0}.r2 rect{fill:#4dbb9d}.r3 rect{fill:#f4ec7b}.r4 rect{fill:#4d9cc9}\
 .r5 rect{fill:#e28e4d}.r6 rect{fill:#dba1c1}.after{opacity:.35}.breaks rect{fill:none;stroke:#b00;stroke-width:3}\
@@ -38,6 +38,9 @@ const LEGEND: &str =
 <use href='#release' x='28' y='88'/><text x='40' y='86'>release</text><use href='#deadline' x='108' y='88'/><text x='120' y='86'>absolute deadline</text>\
 <use href='#completion' x='248' y='86'/><text x='260' y='86'>completion</text>\
 <g class='r1'><rect x='340' y='77' width='16' height='10'/></g><text x='360' y='86'>first in the queue of a resource, +n: n wait behind it</text>\n";
+
+// How many names of tasks without a lane are on a line.
+const HIDDEN: u64 = 7;
 
 // How a block looks: in the queue of a resource and in a critical section it has the resource's colour.
 fn class_of(block: &Block) -> &'static str {
@@ -90,16 +93,6 @@ fn depth_of(plan: &Plan, task: TaskId) -> u64 {
         }
     }
     most
-}
-
-fn left_out(scene: &Scene<'_>, layout: &Layout) -> Result<String, AllocError> {
-    let mut names = String::new(scene.alloc);
-    for task in 0..scene.plan.tasks() {
-        if layout.room(Lane::Task(TaskId(task))).is_none() {
-            write!(names, " {}", scene.plan.task_name(TaskId(task)))?;
-        }
-    }
-    Ok(names)
 }
 
 #[derive(Drop)]
@@ -255,9 +248,13 @@ impl Canvas<'_> {
         Ok(())
     }
 
-    // The numbers of ticks: of each fifth, or where ticks are narrow of each tenth.
+    // The numbers of ticks: of each fifth, or where ticks are narrow of each tenth or twentieth.
     fn axis(&mut self, y: u64) -> Written {
-        let each = if self.layout.tick_width < 8 { 10 } else { 5 };
+        let each = match self.layout.tick_width {
+            0..=4 => 20,
+            5..=7 => 10,
+            _ => 5,
+        };
         self.note("level name", LEFT - 16, y, &"time (ticks)")?;
         for tick in self.scene.window.from..self.scene.window.to {
             if tick % each == 0 {
@@ -268,8 +265,7 @@ impl Canvas<'_> {
     }
 
     // The size of the picture, its style and legend.
-    fn head(&mut self, width: u64) -> Written {
-        let height = self.layout.bottom.saturating_add(10);
+    fn head(&mut self, width: u64, height: u64) -> Written {
         write!(self.text, "<svg xmlns=\"http://www.w3.org/2000/svg\" ")?;
         write!(self.text, "width=\"{width}\" height=\"{height}\" ")?;
         writeln!(self.text, "viewBox=\"0 0 {width} {height}\">")?;
@@ -277,28 +273,63 @@ impl Canvas<'_> {
         self.text.push_str(LEGEND)
     }
 
-    // The verdict, what violates a rule, and which ticks are drawn.
-    fn caption(&mut self, shapes: &Shapes) -> Written {
-        let (scene, alloc) = (self.scene, self.scene.alloc);
-        let (mut verdict, mut ticks) = (String::new(alloc), String::new(alloc));
-        say_verdict(&mut verdict, scene.found)?;
-        if let Some(violation) = &shapes.violation {
-            verdict.push_str(" (")?;
-            say_violation(&mut verdict, scene, violation)?;
-            verdict.push_str(")")?;
+    // Which ticks are drawn, and the verdict.
+    fn caption(&mut self) -> Written {
+        let mut words = String::new(self.scene.alloc);
+        words.push_str("Schedule under MSRP, ")?;
+        say_ticks(&mut words, self.scene)?;
+        self.note("title", 20, 24, &words)?;
+        words.clear();
+        say_verdict(&mut words, self.scene.found)?;
+        self.note("caption", 20, 42, &words)
+    }
+
+    // The tasks without a lane, some on a line below all lanes.
+    fn left_out(&mut self) -> Written {
+        let y = self.layout.bottom;
+        if !self.layout.hidden.is_empty() {
+            self.note("without", 20, y, &"without a job in these ticks:")?;
         }
-        say_ticks(&mut ticks, scene)?;
-        self.note("caption", 20, 24, &verdict)?;
-        self.note("caption", 20, 42, &ticks)
+        for (place, task) in self.layout.hidden.iter().enumerate() {
+            let (column, line) = (place as u64 % HIDDEN, place as u64 / HIDDEN + 1);
+            let y = y.saturating_add(line.saturating_mul(14));
+            let name = task_name(self.scene.plan, *task);
+            self.note("without", column * 110 + 20, y, &name)?;
+        }
+        Ok(())
+    }
+
+    // Why the verdict is a fault: the rule in words, the row that violates it, and the expected one.
+    fn reasons(&mut self, shapes: &Shapes, rule: &str) -> Written {
+        if self.scene.found.is_err() {
+            self.note("why", 20, LINES + 8, &rule)?;
+        }
+        let Some(Violation { row, .. }) = shapes.violation else {
+            return Ok(());
+        };
+        let mut words = String::new(self.scene.alloc);
+        write!(words, "found in tick {} on core {}: ", row.tick, row.core.0)?;
+        say_row(&mut words, self.scene, row)?;
+        self.note("why", 20, LINES + 26, &words)?;
+        let Some(row) = shapes.expected else {
+            return Ok(());
+        };
+        words.clear();
+        words.push_str("expected: ")?;
+        say_row(&mut words, self.scene, row)?;
+        self.note("why", 20, LINES + 44, &words)
     }
 }
 
-/// A picture in SVG.
-pub(crate) fn svg(scene: &Scene<'_>, shapes: &Shapes) -> Result<String, AllocError> {
+/// A picture in SVG, with the sentence of a violated rule.
+pub(crate) fn svg(scene: &Scene<'_>, shapes: &Shapes, rule: &str) -> Result<String, AllocError> {
     let layout = &Layout::of(scene, shapes)?;
-    let (right, without) = (layout.right(), left_out(scene, layout)?);
+    let right = layout.right();
     let width = right.saturating_add(if right > WIDE { LEFT } else { 20 });
-    let names = width_of(&without).saturating_add(240);
+    let lines = (layout.hidden.len() as u64)
+        .div_ceil(HIDDEN)
+        .saturating_mul(14);
+    let height = layout.bottom.saturating_add(lines).saturating_add(10);
     let text = String::new(scene.alloc);
     let mut canvas = Canvas {
         scene,
@@ -307,17 +338,15 @@ pub(crate) fn svg(scene: &Scene<'_>, shapes: &Shapes) -> Result<String, AllocErr
         last: None,
         ends: Vec::new(scene.alloc),
     };
-    canvas.head(width.max(840).max(names))?;
-    canvas.caption(shapes)?;
+    canvas.head(width.max(860), height)?;
+    canvas.caption()?;
+    canvas.reasons(shapes, rule)?;
     for (lane, room) in &layout.lanes {
         canvas.lane(*lane, *room)?;
     }
     canvas.blocks(shapes)?;
     canvas.marks(shapes)?;
-    if !without.is_empty() {
-        let words = format_args!("without a job in these ticks:{without}");
-        canvas.note("level", 20, layout.bottom, &words)?;
-    }
+    canvas.left_out()?;
     canvas.text.push_str("</svg>\n")?;
     Ok(canvas.text)
 }

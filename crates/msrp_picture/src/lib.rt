@@ -7,6 +7,7 @@
 mod blocks;
 mod drawing;
 mod elements;
+mod expected;
 mod gathering;
 mod lanes;
 pub mod laws;

@@ -101,4 +101,6 @@ pub struct Shapes {
     pub blocks: Vec<Block>,
     pub events: Vec<Event>,
     pub violation: Option<Violation>,
+    /// The row that is expected of its core, if the turn of that is still to come in the tick.
+    pub expected: Option<Row>,
 }

@@ -4,7 +4,7 @@ use crate::Verdict;
 use crate::scene::Scene;
 use crate::shapes::{Block, Event, Look, Moment, Violation};
 use crate::windows::expected_tick;
-use msrp_plan::{JobId, Kind, Plan, ResId, TaskId};
+use msrp_plan::{JobId, Kind, Plan, ResId, Row, TaskId};
 use std::alloc::AllocError;
 
 /// What a function of text answers: an error where no memory is left for the text.
@@ -54,6 +54,20 @@ pub(crate) fn say_verdict(text: &mut String, found: Verdict) -> Written {
     match found {
         Ok(()) => text.push_str("good"),
         Err(fault) => write!(text, "fault,{},{:?}", fault.row, fault.rule),
+    }
+}
+
+/// Writes what a row does.
+pub(crate) fn say_row(text: &mut String, scene: &Scene<'_>, row: Row) -> Written {
+    if row.job.is_none() {
+        return text.push_str("idle");
+    }
+    let who = job_words(scene, row.job)?;
+    write!(text, "{who} {}", deed(row.kind))?;
+    say_res(text, scene, row.res)?;
+    match row.ahead {
+        Some(ahead) if ahead > 0 => write!(text, ", {ahead} ahead"),
+        _ => Ok(()),
     }
 }
 
@@ -123,8 +137,7 @@ pub(crate) fn say_violation(
     violation: &Violation,
 ) -> Written {
     let (row, rule) = (violation.row, violation.rule);
-    let (who, deed) = (job_words(scene, row.job)?, deed(row.kind));
-    write!(text, "tick {}, core {}: {who} {deed}", row.tick, row.core.0)?;
-    say_res(text, scene, row.res)?;
+    write!(text, "tick {}, core {}: ", row.tick, row.core.0)?;
+    say_row(text, scene, row)?;
     write!(text, ", which violates rule {rule:?}")
 }

@@ -28,7 +28,8 @@ unfoldable pub grammar : App
 grammar =
     let flags = with_rule (with_rule (new_app (codes "msrp_view")) (flag (codes "text"))) (flag (codes "svg")) in
     let ticks = with_rule (with_rule flags (valued (codes "from"))) (valued (codes "to")) in
-    let others = with_rule (with_rule (with_rule ticks (flag (codes "why"))) (flag (codes "vcd"))) (flag (codes "perfetto")) in
+    let dumps = with_rule (with_rule (with_rule ticks (flag (codes "why"))) (flag (codes "vcd"))) (flag (codes "gtkw")) in
+    let others = with_rule dumps (flag (codes "perfetto")) in
     let pages = with_rule (with_rule others (flag (codes "html"))) (valued (codes "tick")) in
     with_rule (with_rule (with_rule pages version) (wanted (codes "PLAN"))) (new_rule (codes "TRACE"))
 
@@ -59,19 +60,20 @@ abbrev pub says_picture : List Row → Bool
 says_picture rows = is_given (codes "text") rows || (is_given (codes "svg") rows || (is_given (codes "from") rows || is_given (codes "to") rows))
 
 -- words, a format, a page or a picture: only one of them, and the length of a tick only for a page
-abbrev pub view_by : Bool → Bool → Bool → Bool → Bool → Bool → Result Asked CliFault → Result View CliFault
-view_by true false false false false false asked = Ok Why
-view_by false true false false false false asked = Ok (Export format.Vcd)
-view_by false false true false false false asked = Ok (Export format.Perfetto)
-view_by false false false true false tick asked = Ok Page
-view_by false false false false picture false (Ok asked) = Ok (Picture asked)
-view_by false false false false picture false (Err fault) = Err fault
-view_by _ _ _ _ _ _ asked = Err Usage
+abbrev pub view_by : Bool → Bool → Bool → Bool → Bool → Bool → Bool → Result Asked CliFault → Result View CliFault
+view_by true false false false false false false asked = Ok Why
+view_by false true false false false false false asked = Ok (Export format.Vcd)
+view_by false false true false false false false asked = Ok (Export format.Gtkw)
+view_by false false false true false false false asked = Ok (Export format.Perfetto)
+view_by false false false false true false tick asked = Ok Page
+view_by false false false false false picture false (Ok asked) = Ok (Picture asked)
+view_by false false false false false picture false (Err fault) = Err fault
+view_by _ _ _ _ _ _ _ asked = Err Usage
 
 abbrev pub view_of : List Row → Result View CliFault
 view_of rows =
-    view_by (is_given (codes "why") rows) (is_given (codes "vcd") rows) (is_given (codes "perfetto") rows) (is_given (codes "html") rows) (says_picture rows) (is_given (codes "tick") rows)
-    (asked_of rows)
+    view_by (is_given (codes "why") rows) (is_given (codes "vcd") rows) (is_given (codes "gtkw") rows) (is_given (codes "perfetto") rows) (is_given (codes "html") rows) (says_picture rows)
+    (is_given (codes "tick") rows) (asked_of rows)
 
 -- ---- answers
 -- a plan alone is to be explained

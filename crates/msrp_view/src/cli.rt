@@ -66,6 +66,8 @@ const WHY_HELP: &str =
 
 const VCD_HELP: &str = "value change dump of the whole trace, for GTKWave and other wave viewers";
 
+const GTKW_HELP: &str = "save file for GTKWave, with which it shows all signals of the dump";
+
 const PERFETTO_HELP: &str = "trace events (JSON) of the whole trace, for ui.perfetto.dev";
 
 const HTML_HELP: &str = "page for a browser: the verdict and its reasons, a timeline, a report";
@@ -95,6 +97,7 @@ fn grammar<'a>(alloc: Global) -> Result<Command<'a>, AllocError>
     let made = with_arg(made, valued(alloc, "to", "T", TO_HELP));
     let made = with_arg(made, flag(alloc, "why", WHY_HELP));
     let made = with_arg(made, flag(alloc, "vcd", VCD_HELP));
+    let made = with_arg(made, flag(alloc, "gtkw", GTKW_HELP));
     let made = with_arg(made, flag(alloc, "perfetto", PERFETTO_HELP));
     let made = with_arg(made, flag(alloc, "html", HTML_HELP));
     let made = with_arg(made, valued(alloc, "tick", "LENGTH", TICK_HELP));
@@ -167,16 +170,17 @@ fn view_of(matches: &ArgMatches<'_>) -> Result<View, CliFault>
     ensures usage { IfErr result (λ fault. fault ≡ CliFault.Usage) }
 {
     let why = is_given(matches, "why");
-    let vcd = is_given(matches, "vcd");
+    let (vcd, gtkw) = (is_given(matches, "vcd"), is_given(matches, "gtkw"));
     let perfetto = is_given(matches, "perfetto");
     let (html, tick) = (is_given(matches, "html"), is_given(matches, "tick"));
     let picture = says_picture(matches);
-    match (why, vcd, perfetto, html, picture, tick) {
-        (true, false, false, false, false, false) => Ok(View::Why),
-        (false, true, false, false, false, false) => Ok(View::Export(Format::Vcd)),
-        (false, false, true, false, false, false) => Ok(View::Export(Format::Perfetto)),
-        (false, false, false, true, false, _) => Ok(View::Page),
-        (false, false, false, false, _, false) => Ok(View::Picture(asked_of(matches)?)),
+    match (why, vcd, gtkw, perfetto, html, picture, tick) {
+        (true, false, false, false, false, false, false) => Ok(View::Why),
+        (false, true, false, false, false, false, false) => Ok(View::Export(Format::Vcd)),
+        (false, false, true, false, false, false, false) => Ok(View::Export(Format::Gtkw)),
+        (false, false, false, true, false, false, false) => Ok(View::Export(Format::Perfetto)),
+        (false, false, false, false, true, false, _) => Ok(View::Page),
+        (false, false, false, false, false, _, false) => Ok(View::Picture(asked_of(matches)?)),
         _ => Err(CliFault::Usage),
     }
 }

@@ -21,6 +21,7 @@ use msrp_plan::bytes::{Sink, Source};
 use msrp_plan::{Memory, Plan, Row, Trace};
 use msrp_text::read_plan;
 use msrp_trace::TraceReader;
+use msrp_why::sentence;
 use std::alloc::Global;
 use std::io::{Read, Write};
 
@@ -94,7 +95,16 @@ fn picture_of<T: Read>(
     };
     let trace = gather(alloc, plan, trace)?.trace;
     let found = audit(alloc, plan, &trace)?;
-    let text = draw(alloc, plan, trace.rows.as_slice(), found, asked, window)?;
+    let rule = found.err().map_or("", |fault| sentence(fault.rule));
+    let text = draw(
+        alloc,
+        plan,
+        trace.rows.as_slice(),
+        found,
+        asked,
+        window,
+        rule,
+    )?;
     Ok(Made { text, found })
 }
 

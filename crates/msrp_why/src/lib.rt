@@ -19,5 +19,5 @@ pub use causes::{Cause, Ground, cause_of};
 pub use exercise::{ResourceCounts, TurnCounts};
 pub use misfits::RefusedRecord;
 pub use notes::{Notes, Numbered, ResourceNotes};
-pub use telling::{RefusedRow, Why};
+pub use telling::{RefusedRow, Why, sentence};
 pub use tried::Ended;

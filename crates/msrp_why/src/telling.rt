@@ -10,7 +10,8 @@ use msrp_levels::Levels;
 use msrp_plan::{Fault, JobId, Kind, Plan, ResId, Row, Rule, TextVersion};
 use std::fmt::{self, Formatter, Write};
 
-pub(crate) fn sentence(rule: Rule) -> &'static str {
+/// A rule in words.
+pub fn sentence(rule: Rule) -> &'static str {
     match rule {
         Rule::A1 => "rule A1: row out of turn",
         Rule::A2 => "rule A2: the job is not one of this core",

@@ -10,9 +10,10 @@ returns c =
     let to = c.with_arg-made-4.ensures _ _ from c.valued-2.ensures.rule c.valued-2.ensures.own in
     let why = c.with_arg-made-5.ensures _ _ to c.flag-3.ensures.rule c.flag-3.ensures.own in
     let vcd = c.with_arg-made-6.ensures _ _ why c.flag-4.ensures.rule c.flag-4.ensures.own in
-    let perfetto = c.with_arg-made-7.ensures _ _ vcd c.flag-5.ensures.rule c.flag-5.ensures.own in
-    let html = c.with_arg-made-8.ensures _ _ perfetto c.flag-6.ensures.rule c.flag-6.ensures.own in
-    let tick = c.with_arg-made-9.ensures _ _ html c.valued-3.ensures.rule c.valued-3.ensures.own in
-    let version = c.with_arg-made-10.ensures _ _ tick c.version.ensures.rule c.version.ensures.own in
-    let plan = c.with_arg-made-11.ensures _ _ version c.path.ensures.rule c.path.ensures.own in
+    let gtkw = c.with_arg-made-7.ensures _ _ vcd c.flag-5.ensures.rule c.flag-5.ensures.own in
+    let perfetto = c.with_arg-made-8.ensures _ _ gtkw c.flag-6.ensures.rule c.flag-6.ensures.own in
+    let html = c.with_arg-made-9.ensures _ _ perfetto c.flag-7.ensures.rule c.flag-7.ensures.own in
+    let tick = c.with_arg-made-10.ensures _ _ html c.valued-3.ensures.rule c.valued-3.ensures.own in
+    let version = c.with_arg-made-11.ensures _ _ tick c.version.ensures.rule c.version.ensures.own in
+    let plan = c.with_arg-made-12.ensures _ _ version c.path.ensures.rule c.path.ensures.own in
     c.with_arg.ensures _ _ plan c.optional.ensures.rule c.optional.ensures.own
