@@ -126,7 +126,10 @@ impl<R: Read> RecordReader<R> {
         ensures same { result ≡ false → self.new ≡ self.old }
         ensures ended { result ≡ true → (rest : List ℕ) × (line.now ≡ rest ++ codes "\n") }
     {
-        if ends_line(line) && begins_with_long(&self.ahead()[front.len()..], line) {
+        let Way::Lines(lines) = &self.way else {
+            return self.meets_apart(front, line);
+        };
+        if ends_line(line) && begins_with_long(&lines.ahead()[front.len()..], line) {
             self.take_line(front.len() + line.len());
             return true;
         }
