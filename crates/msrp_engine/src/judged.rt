@@ -15,7 +15,7 @@ ghost use Rattle.msrp_engine.specs.Inside.Kept.{IsKept, KeepsRows, row_of_core};
 use msrp_audit::Auditor;
 use msrp_core::CoreState;
 use msrp_plan::limits::MOST_CORES;
-use msrp_plan::{CoreId, Fault, Plan, Row};
+use msrp_plan::{CoreId, Fault, Kind, Plan, Row};
 use msrp_trace::{RowTexts, TraceError, TraceReader};
 use std::io::Read;
 
@@ -198,7 +198,14 @@ impl<'p, 't, T: Read> JudgedRows<'p, 't, T> {
     {
         match kept_row(&self.lasts, core) {
             Some(last) => last.in_tick(tick),
-            None => unreachable!(),
+            None => Row {
+                tick,
+                core,
+                kind: Kind::Idle,
+                job: None,
+                res: None,
+                ahead: None,
+            },
         }
     }
 

@@ -233,12 +233,17 @@ pub(crate) fn begins_with_long(text: &[u8], front: &[u8]) -> bool
     }
     let text = &text[..count];
     if count <= 16 {
-        return is_same(text, front);
+        if !is_same(text, front) {
+            return false;
+        }
+    } else if count <= 32 {
+        if !is_long_same(text, front) {
+            return false;
+        }
+    } else if !is_longest_same(text, front) {
+        return false;
     }
-    if count <= 32 {
-        return is_long_same(text, front);
-    }
-    is_longest_same(text, front)
+    true
 }
 
 /// Whether a text ends with a line feed.

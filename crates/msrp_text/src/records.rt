@@ -126,7 +126,10 @@ impl<R: Read> RecordReader<R> {
         ensures same { result ≡ false → self.new ≡ self.old }
         ensures ended { result ≡ true → (rest : List ℕ) × (line.now ≡ rest ++ codes "\n") }
     {
-        if begins_with_long(&self.ahead()[front.len()..], line) && ends_line(line) {
+        let Way::Lines(lines) = &self.way else {
+            return self.meets_apart(front, line);
+        };
+        if ends_line(line) && begins_with_long(&lines.ahead()[front.len()..], line) {
             self.take_line(front.len() + line.len());
             return true;
         }
@@ -170,20 +173,26 @@ impl<R: Read> RecordReader<R> {
         ensures stop { stop_of self.new ≡ stop_of self.old }
         ensures still { (bytes : List ℕ) (number : ℕ) → HasRead R.remaining bytes number self.old → HasRead R.remaining bytes number self.new }
     {
-        self.look_ahead();
-        digit_after(self.ahead(), first)
+        if first.len() <= 8 && self.ahead().len() > LONGEST {
+            if let Some(digit) = digit_after(self.ahead(), first) {
+                return Some(digit);
+            }
+        }
+        self.digit_apart(first)
     }
 
-    // Makes a whole line available, or as many bytes as the longest has, or all that are left.
-    #[inline(always)]
-    fn look_ahead(&mut self)
+    // The same, kept apart from the code of most lines.
+    #[inline(never)]
+    fn digit_apart(&mut self, first: &[u8]) -> Option<u8>
+        ensures next { IfSome result (λ digit. is_plain_field first.now ≡ true → (left : List (List (List ℕ))) → records_left R.remaining self.new ≡ Some left → FirstBegins (first.now ∷ (digit ∷ []) ∷ []) left) }
+        ensures ahead { IfSome result (λ digit. BeginsWithDigit first.now digit (bytes_ahead self.new)) }
+        ensures finds { (digit : ℕ) → BeginsWithDigit first.now digit (bytes_ahead self.new) → result ≡ Some digit }
         ensures same { KeepsRecords (records_left R.remaining self.old) (records_left R.remaining self.new) }
         ensures stop { stop_of self.new ≡ stop_of self.old }
         ensures still { (bytes : List ℕ) (number : ℕ) → HasRead R.remaining bytes number self.old → HasRead R.remaining bytes number self.new }
     {
-        if self.ahead().len() <= LONGEST {
-            self.read_line_ahead();
-        }
+        self.read_line_ahead();
+        digit_after(self.ahead(), first)
     }
 
     // Reads until a whole line is there, or as many bytes as the longest has, or no more follow.

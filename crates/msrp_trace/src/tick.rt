@@ -45,12 +45,21 @@ impl Tick {
     pub(crate) fn show(&mut self, tick: u32)
         ensures { self.new.tick ≡ tick }
     {
-        if self.tick != tick && !self.count(tick) {
+        if self.tick != tick {
+            self.turn(tick);
+        }
+    }
+
+    // Makes it, kept apart from the code of most rows.
+    #[inline(never)]
+    fn turn(&mut self, tick: u32)
+        ensures { self.new.tick ≡ tick }
+    {
+        if !self.count(tick) {
             self.make(tick);
         }
     }
 
-    #[inline(never)]
     fn make(&mut self, tick: u32)
         ensures { self.new.tick ≡ tick }
     {
