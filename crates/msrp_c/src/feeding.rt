@@ -99,7 +99,7 @@ fn no_words(alloc: Global, found: Result<Result<(), Fault>, CliFault>) -> Result
 impl<'a> FedAuditor<'a> {
     /// An auditor of a plan, before the first row.
     pub(crate) fn new(alloc: Global, loaded: Loaded<'a>) -> Result<FedAuditor<'a>, Memory>
-        ensures { IfOk result (IsFed loaded.plan.now []) }
+        ensures { IfOk result (IsFed loaded.entry.plan.now []) }
     {
         let auditor = Auditor::with_room(alloc, loaded.plan, loaded.levels)?;
         Ok(FedAuditor {
@@ -117,7 +117,7 @@ impl<'a> FedAuditor<'a> {
         loaded: Loaded<'a>,
         turns: &[MsrpRow],
     ) -> Result<FedAuditor<'a>, Memory>
-        ensures { IfOk result (IsFed loaded.plan.now turns.now) }
+        ensures { IfOk result (IsFed loaded.entry.plan.now turns.now) }
     {
         let mut fed = FedAuditor::new(alloc, loaded)?;
         for turn in turns {
@@ -145,6 +145,10 @@ impl<'a> FedAuditor<'a> {
             &mut self.broken,
         );
         self.judged = number;
+        // The verdict was good, so it is not written again.
+        if is_good(verdict) {
+            return Ok(Ok(()));
+        }
         self.verdict = verdict;
         verdict
     }
