@@ -11,3 +11,4 @@ pub mod Opening
 pub mod Hosting
 pub mod Loading
 pub mod Feeding
+pub mod Names

@@ -18,7 +18,10 @@ use std::str;
 fn text_of(name: &[u8]) -> &str
     ensures { result.now ≡ text_of name.now }
 {
-    str::from_utf8(name).unwrap_or("")
+    match str::from_utf8(name) {
+        Ok(text) => text,
+        Err(_) => "",
+    }
 }
 
 // The number of the plan's task with this name.

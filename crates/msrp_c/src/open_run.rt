@@ -36,7 +36,7 @@ fn spare_for(alloc: Global, cores: u32) -> Result<Vec<Box<Content>>, Memory> {
 impl OpenRun {
     /// A run of a plan before its first core is handed out, with all the memory of its turns.
     pub(crate) fn new(alloc: Global, loaded: Loaded<'static>) -> Result<OpenRun, Memory>
-        ensures { IfOk result (λ made. IsNewRun loaded.plan.now made.run) }
+        ensures { IfOk result (λ made. IsNewRun loaded.entry.plan.now made.run) }
     {
         let run = HostedRun::new(alloc, loaded.plan, loaded.levels)?;
         let spare = spare_for(alloc, loaded.plan.cores())?;
