@@ -1,2 +1,2 @@
 pub mod LongDigits
-pub mod Verdicts
+pub mod LeftRecords

@@ -107,8 +107,8 @@ abbrev pub verdict_from : PlanModel → Tolerances → ℕ → List Event → Li
 verdict_from system tolerances number events numbers [] = Ok Good
 verdict_from system tolerances number events numbers (fields ∷ records) =
     decided_or (record_shows system tolerances number events fields (event_of system fields))
-        (settled system number (numbers_by numbers (event_of system fields)) records)
-        (verdict_from system tolerances (number + 1) (events_with events (event_of system fields)) (numbers_by numbers (event_of system fields)) records)
+    (settled system number (numbers_by numbers (event_of system fields)) records)
+    (verdict_from system tolerances (number + 1) (events_with events (event_of system fields)) (numbers_by numbers (event_of system fields)) records)
 
 -- the verdict on all records of a log
 abbrev pub verdict_of : PlanModel → Tolerances → List (List (List ℕ)) → Result LogVerdict LogError

@@ -2,6 +2,7 @@
 ghost use Rattle.std.specs.Prelude.{◌≡◌, ◌++◌, ◌∷◌, ◌<◌, ◌+◌, ◌^◌};
 ghost use Rattle.msrp_plan.specs.Common.{ℕ, List, [], Some};
 ghost use Rattle.csv.specs.Records.{fields_of};
+ghost use Rattle.msrp_text.specs.Fields.{number_at};
 ghost use Rattle.msrp_text.specs.Records.{csv_records, records_left};
 ghost use Rattle.msrp_event_audit.specs.Auditors.{HasFed};
 ghost use Rattle.msrp_events.specs.declared.events.Event.{Event as LogEvent};
@@ -115,7 +116,7 @@ fn judge_records<R: Read>(
 /// so far have a finding, decides; a fault is certain once each core that numbers its records has
 /// shown one more, without a gap. Memory is taken for the auditor and one record alone, however
 /// long the text is.
-pub fn audit_log<R: Read>(
+pub fn audit_log<R: Read + Drop>(
     alloc: Global,
     text: R,
     system: &System,
@@ -130,5 +131,11 @@ pub fn audit_log<R: Read>(
     if !records.read(&mut fields)? || !is_head(system, &fields) {
         return Err(LogError::Head);
     }
-    judge_records(&mut auditor, &mut numbers, system, &mut records, &mut fields)
+    judge_records(
+        &mut auditor,
+        &mut numbers,
+        system,
+        &mut records,
+        &mut fields,
+    )
 }

@@ -1,6 +1,6 @@
 //! Whether a fault is certain: records that were lost before it may explain it, which the next
 //! numbers of the cores' records show.
-ghost use Rattle.std.specs.Prelude.{◌≡◌, ◌<◌, ◌+◌, ◌^◌};
+ghost use Rattle.std.specs.Prelude.{◌≡◌, ◌<◌, ◌+◌, ◌^◌, ◌==◌};
 ghost use Rattle.msrp_plan.specs.Common.{ℕ, List, Some, IfOk, set};
 ghost use Rattle.csv.specs.Records.{fields_of};
 ghost use Rattle.msrp_text.specs.Records.{records_left};

@@ -1,8 +1,8 @@
 //! The text of a kernel's log, read and judged.
 //!
-//! [`audit_log`] judges the events of a text as they are read, in memory that doesn't grow with the text, and
-//! [`read_system`] reads the system. `docs/LOG.md` has both formats. Whether the fields beyond an event's own are empty
-//! isn't judged.
+//! [`audit_log`] judges the events of a text as they are read, in memory that doesn't grow with the
+//! text, and [`read_system`] reads the system. `docs/LOG.md` has both formats. Whether the fields
+//! beyond an event's own are empty isn't judged.
 #![tactic(auto)]
 
 mod actions;

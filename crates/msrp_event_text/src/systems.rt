@@ -1,4 +1,5 @@
-//! The text of a system: `msrp-system,1`, then its cores, its resources, and its tasks with what they lock.
+//! The text of a system: `msrp-system,1`, then its cores, its resources, and its tasks with what
+//! they lock.
 
 use crate::numbers::long_number_at;
 use csv::ByteRecord;
@@ -45,7 +46,8 @@ pub enum SystemRefusal {
 /// Why a text gave no system.
 #[derive(Clone, Copy, Debug, Error, PartialEq, Eq)]
 pub enum SystemError {
-    /// A record is refused, by its number, counted from 1. The end of the text counts as one more record.
+    /// A record is refused, by its number, counted from 1. The end of the text counts as one more
+    /// record.
     #[error("record {number}: {refusal}")]
     At { refusal: SystemRefusal, number: u64 },
     /// A read failed.
@@ -193,7 +195,9 @@ impl Draft {
             return Err(Untaken::Refused(refusal));
         }
         match (number_at(fields, 2), long_number_at(fields, 3)) {
-            (Some(core), Some(_)) if core >= self.cores => Err(Untaken::Refused(SystemRefusal::Core)),
+            (Some(core), Some(_)) if core >= self.cores => Err(Untaken::Refused(
+                SystemRefusal::Core,
+            )),
             (Some(core), Some(deadline)) if deadline > 0 => {
                 let task = Task {
                     name: String::from_str(self.alloc, name_at(fields, 1))?,
@@ -280,10 +284,10 @@ fn is_head(fields: &ByteRecord) -> bool {
 
 /// The system of a text, or its first refusal.
 ///
-/// A text is records of comma-separated fields: `msrp-system,1`, then `cores,N`, then for each resource
-/// `resource,NAME`, and then for each task `task,NAME,CORE,DEADLINE`, with the relative deadline in ns, and its locks
-/// and unlocks after it: `op,lock,NAME` and `op,unlock,NAME`.
-pub fn read_system<R: Read>(alloc: Global, text: R) -> Result<System, SystemError> {
+/// A text is records of comma-separated fields: `msrp-system,1`, then `cores,N`, then for each
+/// resource `resource,NAME`, and then for each task `task,NAME,CORE,DEADLINE`, with the relative
+/// deadline in ns, and its locks and unlocks after it: `op,lock,NAME` and `op,unlock,NAME`.
+pub fn read_system<R: Read + Drop>(alloc: Global, text: R) -> Result<System, SystemError> {
     let mut records = RecordReader::new(alloc, text);
     let mut fields = ByteRecord::new(alloc);
     if !records.read(&mut fields)? || !is_head(&fields) {

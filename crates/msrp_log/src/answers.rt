@@ -8,7 +8,8 @@ use msrp_text::TextError;
 use std::alloc::{AllocError, AllocFailed, Global};
 use thiserror::Error;
 
-/// Why there is no verdict. The text of each is the line on standard error, after the name of the program.
+/// Why there is no verdict. The text of each is the line on standard error, after the program's
+/// name.
 #[derive(Clone, Copy, Debug, Error, PartialEq, Eq)]
 pub enum Refused {
     #[error("usage: msrp_log audit [--op T] [--slack T] [--skew T] [--tick T] [--backlog N] SYSTEM LOG")]
@@ -136,7 +137,8 @@ pub fn verdict_line(alloc: Global, verdict: LogVerdict) -> Result<(String, u8), 
     }
 }
 
-/// The exit status: 2 for a text that is refused, 3 for usage, 4 for memory, 5 for reads and writes.
+/// The exit status: 2 for a text that is refused, 3 for usage, 4 for memory, 5 for reads and
+/// writes.
 pub fn exit_of(outcome: &Result<u8, Refused>) -> u8 {
     match outcome {
         Ok(status) => *status,

@@ -1,21 +1,21 @@
 //! `msrp_log`: judges the log of a kernel by its events, with their times as they are.
 //!
-//! `words` reads the command line, `systems` the system or the plan, and `main` prints the verdict and gives the exit
-//! status. `msrp_event_text` judges.
+//! `cli` reads the command line, `systems` the system or the plan, and `main` prints the verdict and
+//! gives the exit status. `msrp_event_text` judges.
 #![tactic(auto)]
 
 mod answers;
+mod cli;
 mod systems;
-mod words;
 
 use answers::{Refused, exit_of, verdict_line};
+use cli::{Asked, Audit, asked_of, help_text};
 use msrp_cli::{open_both, words_of};
 use msrp_event_text::audit_log;
 use msrp_plan::bytes::Sink;
 use std::io;
 use std::process::ExitCode;
 use systems::{system_of_plan, system_of_text};
-use words::{Asked, Audit, asked_of, help_text};
 
 // The verdict on a log, and the exit status.
 fn audit(rt: &HostRuntime, words: &Audit<'_>) -> Result<u8, Refused> {

@@ -1,4 +1,6 @@
 //! The system that a log is judged against: from its own text, or from a plan in ticks.
+ghost use Rattle.std.specs.Prelude.{◌<◌};
+ghost use Rattle.msrp_plan.specs.Common.{length};
 
 use crate::answers::Refused;
 use msrp_event_text::read_system;
@@ -10,12 +12,14 @@ use std::alloc::Global;
 use std::io::Read;
 
 /// The system of a text `msrp-system,1`.
-pub fn system_of_text<R: Read>(alloc: Global, text: R) -> Result<System, Refused> {
+pub fn system_of_text<R: Read + Drop>(alloc: Global, text: R) -> Result<System, Refused> {
     Ok(read_system(alloc, text)?)
 }
 
 // The locks and unlocks of a plan's task.
-fn steps_of(alloc: Global, plan: &Plan, task: TaskId) -> Result<Vec<Op>, Refused> {
+fn steps_of(alloc: Global, plan: &Plan, task: TaskId) -> Result<Vec<Op>, Refused>
+    requires { task.0 < length plan.now.tasks }
+{
     let mut steps = Vec::new(alloc);
     for u in 0..plan.units(task) {
         let unit = plan.unit(task, u);
@@ -26,12 +30,14 @@ fn steps_of(alloc: Global, plan: &Plan, task: TaskId) -> Result<Vec<Op>, Refused
     Ok(steps)
 }
 
-// A plan's task, whose tick lasts so many ns.
-fn task_of(alloc: Global, plan: &Plan, task: TaskId, tick: u32) -> Result<Task, Refused> {
+// A plan's task, whose tick lasts so many ns. Both factors are below 2^32, so no deadline is cut.
+fn task_of(alloc: Global, plan: &Plan, task: TaskId, tick: u32) -> Result<Task, Refused>
+    requires { task.0 < length plan.now.tasks }
+{
     Ok(Task {
         name: String::from_str(alloc, plan.task_name(task))?,
         core: plan.core_of(task),
-        deadline: u64::from(plan.deadline(task)) * u64::from(tick),
+        deadline: u64::from(plan.deadline(task)).saturating_mul(u64::from(tick)),
         steps: steps_of(alloc, plan, task)?,
     })
 }
@@ -53,7 +59,11 @@ fn tasks_of(alloc: Global, plan: &Plan, tick: u32) -> Result<Vec<Task>, Refused>
 }
 
 /// The system of a plan's text, a tick of which lasts so many ns.
-pub fn system_of_plan<R: Read>(alloc: Global, text: R, tick: u32) -> Result<System, Refused> {
+pub fn system_of_plan<R: Read + Drop>(
+    alloc: Global,
+    text: R,
+    tick: u32,
+) -> Result<System, Refused> {
     let plan = read_plan(alloc, &mut Source::new(text))?;
     let resources = resources_of(alloc, &plan)?;
     let tasks = tasks_of(alloc, &plan, tick)?;

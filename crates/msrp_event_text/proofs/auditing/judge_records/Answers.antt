@@ -1,7 +1,7 @@
 use Rattle.std.proofs.Common.{◌≡◌, ◌+◌, ◌++◌, ◌∷◌, ◌∙◌}
 use Rattle.msrp_plan.proofs.Common.{[], ap, sym, refl, rules, inr, Ok, Err, Some}
-use Rattle.msrp_event_text.specs.LogVerdicts.{verdict_from}
-use Rattle.msrp_event_text.proofs.Verdicts.{stopped-answers, none-left, one-left, verdict-decided, verdict-goes, has-event}
+use Rattle.msrp_event_text.specs.LogVerdicts.{settled, verdict_from}
+use Rattle.msrp_event_text.proofs.LeftRecords.{answers-same, stopped-answers, none-left, one-left, verdict-decided, verdict-goes, has-event}
 use Rattle.msrp_event_text.proofs.auditing.judge_records.Goals as goal
 
 pub loop-number-init : goal.loop-number-init
@@ -14,7 +14,7 @@ pub returns-then-not-branch : goal.returns-then-not-branch
 returns-then-not-branch g c = λ all known.
     let before = c.loop-number.invariant.4 all known in
     let none = none-left before.0 _ _ _ (c.in_ok-read.ensures.next before.0 before.1) c.if-not-branch.true in
-    inr (inr (sym (ap (verdict_from c.args.system.now c.args.auditor.now.tolerances c.loop-number.number c.loop-number.invariant.0) none) ∙ before.2))
+    inr (inr (sym (ap (verdict_from c.args.system.now c.args.auditor.now.tolerances c.loop-number.number c.loop-number.invariant.0 c.loop-number.numbers.items) none) ∙ before.2))
 
 pub returns-in_err-judge_record : goal.returns-in_err-judge_record
 returns-in_err-judge_record g c = λ all known.
@@ -23,7 +23,7 @@ returns-in_err-judge_record g c = λ all known.
     let one = one-left before.0 _ _ _ (c.in_ok-read.ensures.next before.0 before.1) c.if-not-branch.false in
     let e : c.from_residual-in_err-judge_record.result ≡ Err c.in_err-judge_record.field-0.0 = search rules in
     let shown = sym (c.judge_record.ensures.shown kept.0 kept.1) ∙ c.in_err-judge_record.was in
-    inr (inr (e ∙ (sym (verdict-decided c.args.system.now _ _ kept.3 c.loop-number.number kept.0 before.0 _ one.0 one.1 (Err c.in_err-judge_record.field-0.0) _ shown refl) ∙ before.2)))
+    inr (inr (e ∙ (sym (verdict-decided c.args.system.now _ _ kept.3 c.loop-number.number kept.0 c.loop-number.numbers.items before.0 _ one.0 one.1 (Err c.in_err-judge_record.field-0.0) _ shown refl) ∙ before.2)))
 
 pub returns-in-Some : goal.returns-in-Some
 returns-in-Some g c = λ all known.
@@ -31,13 +31,14 @@ returns-in-Some g c = λ all known.
     let before = kept.4 all known in
     let one = one-left before.0 _ _ _ (c.in_ok-read.ensures.next before.0 before.1) c.if-not-branch.false in
     let shown = sym (c.judge_record.ensures.shown kept.0 kept.1) ∙ (c.in_ok-judge_record.was ∙ ap (λ o. Ok o) c.in-Some.is) in
-    inr (inr (sym (verdict-decided c.args.system.now _ _ kept.3 c.loop-number.number kept.0 before.0 _ one.0 one.1 (Ok (Some c.in-Some.verdict)) _ shown refl) ∙ before.2))
+    let due = ap (λ ns. settled c.args.system.now c.loop-number.number ns one.0 c.in-Some.finding) c.judge_record.ensures.numbers in
+    answers-same _ _ _ (due ∙ (sym (verdict-decided c.args.system.now _ _ kept.3 c.loop-number.number kept.0 c.loop-number.numbers.items before.0 _ one.0 one.1 (Ok (Some c.in-Some.finding)) _ shown refl) ∙ before.2)) (c.settle.ensures one.0 one.2)
 
 pub loop-number-preserved : goal.loop-number-preserved
 loop-number-preserved g c =
     let kept = c.loop-number.invariant in
     let shown = sym (c.judge_record.ensures.shown kept.0 kept.1) ∙ (c.in_ok-judge_record.was ∙ ap (λ o. Ok o) c.in-None.is) in
-    let event = has-event _ _ _ _ _ shown in (
+    let event = has-event _ _ _ _ _ _ shown in (
       kept.0 ++ event.0 ∷ [],
       c.judge_record.ensures.fed kept.0 event.0 kept.1 event.1,
       c.judge_record.ensures.system ∙ kept.2,
@@ -45,5 +46,5 @@ loop-number-preserved g c =
       λ all known.
           let before = kept.4 all known in
           let one = one-left before.0 _ _ _ (c.in_ok-read.ensures.next before.0 before.1) c.if-not-branch.false in
-          (one.0, one.2, verdict-goes c.args.system.now _ _ kept.3 c.loop-number.number kept.0 before.0 _ one.0 one.1 event.0 shown event.2 ∙ before.2),
+          (one.0, one.2, verdict-goes c.args.system.now _ _ kept.3 c.loop-number.number kept.0 c.loop-number.numbers.items before.0 _ one.0 one.1 event.0 _ shown event.2 c.judge_record.ensures.numbers ∙ before.2),
     )
