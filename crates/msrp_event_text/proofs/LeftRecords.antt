@@ -40,7 +40,7 @@ one-left (r ∷ rest) found fields after gives some = (rest, ap (λ f. f ∷ res
 -- ---- findings
 abbrev decided : PlanModel → Tolerances → ℕ → List Event → List (Option ℕ) → List (List ℕ) → List (List (List ℕ)) → Result (Option Finding) LogError → Result LogVerdict LogError
 decided system u number events numbers fields rest shows =
-    decided_or shows (settled system number (numbers_by numbers (event_of system fields)) rest)
+    decided_or shows (settled system number (told_by numbers (event_of system fields)) rest)
     (verdict_from system u (number + 1) (events_with events (event_of system fields)) (numbers_by numbers (event_of system fields)) rest)
 
 -- what the first record shows decides, if it shows something

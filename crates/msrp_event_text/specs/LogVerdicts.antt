@@ -55,8 +55,7 @@ told awaited e = set awaited e.core.0 None
 abbrev pub is_certain : List (Option ℕ) → Bool
 is_certain awaited = list_all is_none awaited
 
--- the verdict where a rule was violated at the record of that number, and these records follow:
--- a fault is certain once each core that numbers its records has shown one more, without a gap
+-- what a record after the fault shows decides, and where it shows nothing the rest does
 abbrev pub after_record : Result Bool LogError → Result LogVerdict LogError → Result LogVerdict LogError → Result LogVerdict LogError
 after_record (Err error) gap rest = Err error
 after_record (Ok true) gap rest = gap
@@ -70,6 +69,8 @@ abbrev pub told_by : List (Option ℕ) → Option Event → List (Option ℕ)
 told_by awaited None = awaited
 told_by awaited (Some e) = told awaited e
 
+-- the verdict where a rule was violated at the record of that number, and these records follow:
+-- a fault is certain once each other core that numbers its records has shown one more, without gap
 abbrev pub confirmed_from : PlanModel → LogRule → ℕ → ℕ → List (Option ℕ) → List (List (List ℕ)) → Result LogVerdict LogError
 confirmed_from system rule number at awaited [] = if is_certain awaited then Ok (Fault rule number) else Ok (Unconfirmed rule number)
 confirmed_from system rule number at awaited (fields ∷ records) =
@@ -107,7 +108,7 @@ abbrev pub verdict_from : PlanModel → Tolerances → ℕ → List Event → Li
 verdict_from system tolerances number events numbers [] = Ok Good
 verdict_from system tolerances number events numbers (fields ∷ records) =
     decided_or (record_shows system tolerances number events fields (event_of system fields))
-    (settled system number (numbers_by numbers (event_of system fields)) records)
+    (settled system number (told_by numbers (event_of system fields)) records)
     (verdict_from system tolerances (number + 1) (events_with events (event_of system fields)) (numbers_by numbers (event_of system fields)) records)
 
 -- the verdict on all records of a log

@@ -1,15 +1,16 @@
 //! The events of a text, judged as they are read.
 ghost use Rattle.std.specs.Prelude.{◌≡◌, ◌++◌, ◌∷◌, ◌<◌, ◌+◌, ◌^◌};
-ghost use Rattle.msrp_plan.specs.Common.{ℕ, List, [], Some};
+ghost use Rattle.msrp_plan.specs.Common.{ℕ, List, [], Ok, None, Some};
 ghost use Rattle.csv.specs.Records.{fields_of};
 ghost use Rattle.msrp_text.specs.Fields.{number_at};
 ghost use Rattle.msrp_text.specs.Records.{csv_records, records_left};
 ghost use Rattle.msrp_event_audit.specs.Auditors.{HasFed};
 ghost use Rattle.msrp_events.specs.declared.events.Event.{Event as LogEvent};
+ghost use Rattle.msrp_events.specs.declared.findings.Finding.{Finding as Found};
 ghost use Rattle.msrp_event_text.specs.LogEvents.{event_of};
-ghost use Rattle.msrp_event_text.specs.LogVerdicts.{Answers, is_head, is_number, no_numbers, numbers_by, record_shows, settled, verdict_from, verdict_of};
+ghost use Rattle.msrp_event_text.specs.LogVerdicts.{Answers, is_head, is_number, no_numbers, numbers_by, record_shows, settled, told_by, verdict_from, verdict_of};
 
-use crate::confirming::{confirm, no_numbers, note};
+use crate::confirming::{confirm, no_numbers, note, tell};
 use crate::events::{event_of, refusal_of};
 use crate::verdicts::{LogError, LogVerdict};
 use csv::ByteRecord;
@@ -52,7 +53,8 @@ fn judge_record(
     requires { auditor.old.system ≡ system.now }
     ensures system { auditor.new.system ≡ auditor.old.system }
     ensures tolerances { auditor.new.tolerances ≡ auditor.old.tolerances }
-    ensures numbers { numbers.new.items ≡ numbers_by numbers.old.items (event_of system.now (fields_of fields.now)) }
+    ensures noted { result ≡ Ok None → numbers.new.items ≡ numbers_by numbers.old.items (event_of system.now (fields_of fields.now)) }
+    ensures told { (found : Found) → result ≡ Ok (Some found) → numbers.new.items ≡ told_by numbers.old.items (event_of system.now (fields_of fields.now)) }
     ensures shown { (events : List LogEvent) → HasFed auditor.old events → result ≡ record_shows system.now auditor.old.tolerances number events (fields_of fields.now) (event_of system.now (fields_of fields.now)) }
     ensures fed { (events : List LogEvent) (event : LogEvent) → HasFed auditor.old events → event_of system.now (fields_of fields.now) ≡ Some event → HasFed auditor.new (events ++ event ∷ []) }
 {
@@ -61,13 +63,16 @@ fn judge_record(
             refusal: refusal_of(fields),
             number,
         }),
-        Some(event) => {
-            note(numbers, event);
-            match auditor.feed(event) {
-                Ok(()) => Ok(None),
-                Err(finding) => Ok(Some(finding)),
+        Some(event) => match auditor.feed(event) {
+            Ok(()) => {
+                note(numbers, event);
+                Ok(None)
             }
-        }
+            Err(finding) => {
+                tell(numbers, event);
+                Ok(Some(finding))
+            }
+        },
     }
 }
 
@@ -113,8 +118,8 @@ fn judge_records<R: Read>(
 }
 
 /// The verdict on the events of a text. The first record that is no event, or with which the events
-/// so far have a finding, decides; a fault is certain once each core that numbers its records has
-/// shown one more, without a gap. Memory is taken for the auditor and one record alone, however
+/// so far have a finding, decides; a fault is certain once each other core that numbers its records
+/// has shown one more, without a gap. Memory is taken for the auditor and one record alone, however
 /// long the text is.
 pub fn audit_log<R: Read + Drop>(
     alloc: Global,

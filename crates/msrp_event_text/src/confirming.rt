@@ -41,6 +41,13 @@ pub(crate) fn note(numbers: &mut Vec<Option<u64>>, event: Event)
     put(numbers, event.core.0 as usize, event.number);
 }
 
+/// Stores that nothing is awaited of an event's core: its record follows the one before.
+pub(crate) fn tell(numbers: &mut Vec<Option<u64>>, event: Event)
+    ensures { numbers.new.items ≡ told numbers.old.items event }
+{
+    put(numbers, event.core.0 as usize, None);
+}
+
 fn is_certain(awaited: &[Option<u64>]) -> bool
     ensures { result ≡ is_certain awaited.now }
 {
@@ -96,7 +103,7 @@ fn record_loses(
         }),
         Some(event) => {
             let lost = is_lost(awaited, event);
-            put(awaited, event.core.0 as usize, None);
+            tell(awaited, event);
             Ok(lost)
         }
     }

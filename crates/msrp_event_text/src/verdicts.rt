@@ -15,8 +15,8 @@ pub enum LogVerdict {
     Good,
     /// The scheduler violates a rule, which the record of that number shows.
     Fault { rule: LogRule, number: u64 },
-    /// The same, unless records were lost: the log ends before each core has shown by one more
-    /// record that none were.
+    /// The same, unless records were lost: the log ends before each other core has shown by one
+    /// more record that none were.
     Unconfirmed { rule: LogRule, number: u64 },
     /// The log lacks something, which the record of that number shows.
     Incomplete { missing: Missing, number: u64 },

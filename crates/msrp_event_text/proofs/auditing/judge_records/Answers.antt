@@ -30,14 +30,16 @@ returns-in-Some g c = λ all known.
     let kept = c.loop-number.invariant in
     let before = kept.4 all known in
     let one = one-left before.0 _ _ _ (c.in_ok-read.ensures.next before.0 before.1) c.if-not-branch.false in
-    let shown = sym (c.judge_record.ensures.shown kept.0 kept.1) ∙ (c.in_ok-judge_record.was ∙ ap (λ o. Ok o) c.in-Some.is) in
-    let due = ap (λ ns. settled c.args.system.now c.loop-number.number ns one.0 c.in-Some.finding) c.judge_record.ensures.numbers in
+    let found = c.in_ok-judge_record.was ∙ ap (λ o. Ok o) c.in-Some.is in
+    let shown = sym (c.judge_record.ensures.shown kept.0 kept.1) ∙ found in
+    let due = ap (λ ns. settled c.args.system.now c.loop-number.number ns one.0 c.in-Some.finding) (c.judge_record.ensures.told c.in-Some.finding found) in
     answers-same _ _ _ (due ∙ (sym (verdict-decided c.args.system.now _ _ kept.3 c.loop-number.number kept.0 c.loop-number.numbers.items before.0 _ one.0 one.1 (Ok (Some c.in-Some.finding)) _ shown refl) ∙ before.2)) (c.settle.ensures one.0 one.2)
 
 pub loop-number-preserved : goal.loop-number-preserved
 loop-number-preserved g c =
     let kept = c.loop-number.invariant in
-    let shown = sym (c.judge_record.ensures.shown kept.0 kept.1) ∙ (c.in_ok-judge_record.was ∙ ap (λ o. Ok o) c.in-None.is) in
+    let nothing = c.in_ok-judge_record.was ∙ ap (λ o. Ok o) c.in-None.is in
+    let shown = sym (c.judge_record.ensures.shown kept.0 kept.1) ∙ nothing in
     let event = has-event _ _ _ _ _ _ shown in (
       kept.0 ++ event.0 ∷ [],
       c.judge_record.ensures.fed kept.0 event.0 kept.1 event.1,
@@ -46,5 +48,5 @@ loop-number-preserved g c =
       λ all known.
           let before = kept.4 all known in
           let one = one-left before.0 _ _ _ (c.in_ok-read.ensures.next before.0 before.1) c.if-not-branch.false in
-          (one.0, one.2, verdict-goes c.args.system.now _ _ kept.3 c.loop-number.number kept.0 c.loop-number.numbers.items before.0 _ one.0 one.1 event.0 _ shown event.2 c.judge_record.ensures.numbers ∙ before.2),
+          (one.0, one.2, verdict-goes c.args.system.now _ _ kept.3 c.loop-number.number kept.0 c.loop-number.numbers.items before.0 _ one.0 one.1 event.0 _ shown event.2 (c.judge_record.ensures.noted nothing) ∙ before.2),
     )

@@ -38,5 +38,5 @@ loop-at-preserved g c = λ all known.
       one.0,
       one.2,
       ap (λ ns. confirmed_from c.args.system.now c.args.rule c.args.number (c.loop-at.at + 1) ns one.0) c.record_loses.ensures.told
-        ∙ (sym (confirmed-decided c.args.system.now c.args.rule c.args.number c.loop-at.at c.loop-at.awaited.items before.0 _ one.0 (sym c.is_certain.ensures ∙ c.if-is_certain.false) one.1 (Ok false) shown) ∙ before.2),
+          ∙ (sym (confirmed-decided c.args.system.now c.args.rule c.args.number c.loop-at.at c.loop-at.awaited.items before.0 _ one.0 (sym c.is_certain.ensures ∙ c.if-is_certain.false) one.1 (Ok false) shown) ∙ before.2),
     )
