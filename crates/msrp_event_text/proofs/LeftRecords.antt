@@ -10,10 +10,11 @@ use Rattle.msrp_events.specs.declared.findings.LogRule.{LogRule}
 use Rattle.msrp_events.specs.declared.findings.Missing.TheVariants as missing
 use Rattle.msrp_events.specs.declared.states.Tolerances.{Tolerances}
 use Rattle.msrp_event_text.specs.LogEvents.{event_of}
-use Rattle.msrp_event_text.specs.LogVerdicts.{Answers, error_at, record_shows, events_with, numbers_by, decided_or, settled, verdict_from, is_certain, record_loses, told_by, after_record, confirmed_from}
+use Rattle.msrp_event_text.specs.LogVerdicts.{Answers, error_at, record_shows, events_with, numbers_by, decided_or, settled, verdict_from, is_certain, record_loses, told_by, after_record, confirmed_from, is_head, no_numbers, verdict_of}
 use Rattle.msrp_event_text.specs.declared.verdicts.LogVerdict.{LogVerdict}
 use Rattle.msrp_event_text.specs.declared.verdicts.LogVerdict.TheVariants.{Fault, Unconfirmed, Incomplete}
 use Rattle.msrp_event_text.specs.declared.verdicts.LogError.{LogError}
+use Rattle.msrp_event_text.specs.declared.verdicts.LogError.TheVariants.{Head}
 
 -- a reader that has stopped answers so
 pub stopped-answers : (why : Stopped) (answer verdict : Result LogVerdict LogError) → answer ≡ Err (error_at why) → Answers answer verdict
@@ -35,7 +36,7 @@ none-left (r ∷ rest) found fields after gives none = let some = gives.0 in abs
 pub one-left : (left : List (List (List ℕ))) (found : Bool) (fields : List (List ℕ)) (after : Option (List (List (List ℕ)))) → GivesNext left found fields after → found ≡ true
     → (rest : List (List (List ℕ))) × (left ≡ fields ∷ rest) × (after ≡ Some rest)
 one-left [] found fields after gives some = absurd (cc)
-one-left (r ∷ rest) found fields after gives some = (rest, ap (λ f. f ∷ rest) (sym gives.1.0), gives.1.1)
+one-left (r ∷ rest) found fields after gives some = (rest, ap (λ f. f ∷ rest) (sym gives.1), gives.2)
 
 -- ---- findings
 abbrev decided : PlanModel → Tolerances → ℕ → List Event → List (Option ℕ) → List (List ℕ) → List (List (List ℕ)) → Result (Option Finding) LogError → Result LogVerdict LogError
@@ -84,3 +85,10 @@ confirmed-decided system rule number at awaited left fields rest h one loses sho
     ap (confirmed_from system rule number at awaited) one
     ∙ (ap (λ b. if b then Ok (Fault rule number) else after_record (record_loses awaited at fields (event_of system fields)) (Ok (Incomplete missing.Records at)) (confirmed_from system rule number (at + 1) (told_by awaited (event_of system fields)) rest)) h
     ∙ ap (λ it. after_record it (Ok (Incomplete missing.Records at)) (confirmed_from system rule number (at + 1) (told_by awaited (event_of system fields)) rest)) shows)
+
+-- ---- the first record
+pub head-wrong : (system : PlanModel) (tolerances : Tolerances) (head : List (List ℕ)) (rest : List (List (List ℕ))) → is_head system head ≡ false → verdict_of system tolerances (head ∷ rest) ≡ Err Head
+head-wrong system tolerances head rest h = ap (λ b. if b then verdict_from system tolerances 2 [] (no_numbers system) rest else Err Head) h
+
+pub head-right : (system : PlanModel) (tolerances : Tolerances) (head : List (List ℕ)) (rest : List (List (List ℕ))) → is_head system head ≡ true → verdict_of system tolerances (head ∷ rest) ≡ verdict_from system tolerances 2 [] (no_numbers system) rest
+head-right system tolerances head rest h = ap (λ b. if b then verdict_from system tolerances 2 [] (no_numbers system) rest else Err Head) h

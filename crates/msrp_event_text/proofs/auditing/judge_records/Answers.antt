@@ -16,21 +16,21 @@ returns-then-not-branch g c = λ all known.
     let none = none-left before.0 _ _ _ (c.in_ok-read.ensures.next before.0 before.1) c.if-not-branch.true in
     inr (inr (sym (ap (verdict_from c.args.system.now c.args.auditor.now.tolerances c.loop-number.number c.loop-number.invariant.0 c.loop-number.numbers.items) none) ∙ before.2))
 
-pub returns-in_err-judge_record : goal.returns-in_err-judge_record
-returns-in_err-judge_record g c = λ all known.
+pub returns-in_err-finding : goal.returns-in_err-finding
+returns-in_err-finding g c = λ all known.
     let kept = c.loop-number.invariant in
     let before = kept.4 all known in
     let one = one-left before.0 _ _ _ (c.in_ok-read.ensures.next before.0 before.1) c.if-not-branch.false in
-    let e : c.from_residual-in_err-judge_record.result ≡ Err c.in_err-judge_record.field-0.0 = search rules in
-    let shown = sym (c.judge_record.ensures.shown kept.0 kept.1) ∙ c.in_err-judge_record.was in
-    inr (inr (e ∙ (sym (verdict-decided c.args.system.now _ _ kept.3 c.loop-number.number kept.0 c.loop-number.numbers.items before.0 _ one.0 one.1 (Err c.in_err-judge_record.field-0.0) _ shown refl) ∙ before.2)))
+    let e : c.from_residual-in_err-finding.result ≡ Err c.in_err-finding.field-0.0 = search rules in
+    let shown = sym (c.judge_record.ensures.shown kept.0 kept.1) ∙ c.in_err-finding.was in
+    inr (inr (e ∙ (sym (verdict-decided c.args.system.now _ _ kept.3 c.loop-number.number kept.0 c.loop-number.numbers.items before.0 _ one.0 one.1 (Err c.in_err-finding.field-0.0) _ shown refl) ∙ before.2)))
 
 pub returns-in-Some : goal.returns-in-Some
 returns-in-Some g c = λ all known.
     let kept = c.loop-number.invariant in
     let before = kept.4 all known in
     let one = one-left before.0 _ _ _ (c.in_ok-read.ensures.next before.0 before.1) c.if-not-branch.false in
-    let found = c.in_ok-judge_record.was ∙ ap (λ o. Ok o) c.in-Some.is in
+    let found = c.in_ok-finding.was ∙ ap (λ o. Ok o) c.in-Some.is in
     let shown = sym (c.judge_record.ensures.shown kept.0 kept.1) ∙ found in
     let due = ap (λ ns. settled c.args.system.now c.loop-number.number ns one.0 c.in-Some.finding) (c.judge_record.ensures.told c.in-Some.finding found) in
     answers-same _ _ _ (due ∙ (sym (verdict-decided c.args.system.now _ _ kept.3 c.loop-number.number kept.0 c.loop-number.numbers.items before.0 _ one.0 one.1 (Ok (Some c.in-Some.finding)) _ shown refl) ∙ before.2)) (c.settle.ensures one.0 one.2)
@@ -38,7 +38,7 @@ returns-in-Some g c = λ all known.
 pub loop-number-preserved : goal.loop-number-preserved
 loop-number-preserved g c =
     let kept = c.loop-number.invariant in
-    let nothing = c.in_ok-judge_record.was ∙ ap (λ o. Ok o) c.in-None.is in
+    let nothing = c.in_ok-finding.was ∙ ap (λ o. Ok o) c.in-None.is in
     let shown = sym (c.judge_record.ensures.shown kept.0 kept.1) ∙ nothing in
     let event = has-event _ _ _ _ _ _ shown in (
       kept.0 ++ event.0 ∷ [],
