@@ -1,5 +1,6 @@
 use Rattle.std.proofs.Common.{◌≡◌, ◌+◌, ◌++◌, ◌∷◌, ◌∙◌}
 use Rattle.msrp_plan.proofs.Common.{[], ap, sym, refl, rules, inr, Ok, Err, Some}
+use Rattle.csv.specs.Records.{fields_of}
 use Rattle.msrp_event_text.specs.LogVerdicts.{settled, verdict_from}
 use Rattle.msrp_event_text.proofs.LeftRecords.{answers-same, stopped-answers, none-left, one-left, verdict-decided, verdict-goes, has-event}
 use Rattle.msrp_event_text.proofs.auditing.judge_records.Goals as goal
@@ -38,9 +39,9 @@ returns-in-Some g c = λ all known.
 pub loop-number-preserved : goal.loop-number-preserved
 loop-number-preserved g c =
     let kept = c.loop-number.invariant in
-    let nothing = c.in_ok-finding.was ∙ ap (λ o. Ok o) c.in-None.is in
+    let nothing = c.in_ok-finding.was ∙ ap (λ o. Ok o) c.in_default.is in
     let shown = sym (c.judge_record.ensures.shown kept.0 kept.1) ∙ nothing in
-    let event = has-event _ _ _ _ _ _ shown in (
+    let event = has-event c.args.system.now c.loop-number.auditor.tolerances c.loop-number.number kept.0 (fields_of c.read.new.row) _ shown in (
       kept.0 ++ event.0 ∷ [],
       c.judge_record.ensures.fed kept.0 event.0 kept.1 event.1,
       c.judge_record.ensures.system ∙ kept.2,
