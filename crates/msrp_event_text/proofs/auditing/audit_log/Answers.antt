@@ -1,4 +1,4 @@
-use Rattle.std.proofs.Common.{◌≡◌, ◌∙◌}
+use Rattle.std.proofs.Common.{◌∙◌}
 use Rattle.msrp_plan.proofs.Common.{[], ap, sym, inr, option_map}
 use Rattle.msrp_text.specs.Records.{csv_records}
 use Rattle.msrp_event_text.specs.LogVerdicts.{verdict_from, verdict_of}
