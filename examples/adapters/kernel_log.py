@@ -272,7 +272,7 @@ class Kernel:
 
 if __name__ == "__main__":
     words = argparse.ArgumentParser(description=__doc__, formatter_class=argparse.RawDescriptionHelpFormatter)
-    for name, number in [("tick", 1000), ("time", 20_000_000), ("seed", 1), ("operation", 250), ("switch", 1800), ("jitter", 4000), ("handover", 120), ("offsets", 0), ("stretch", 1)]:
+    for name, number in [("tick", 10_000), ("time", 20_000_000), ("seed", 1), ("operation", 250), ("switch", 1800), ("jitter", 4000), ("handover", 120), ("offsets", 0), ("stretch", 1)]:
         words.add_argument("--" + name, type=int, default=number)
     words.add_argument("--bug", default="")
     words.add_argument("plan")
