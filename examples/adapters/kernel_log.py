@@ -2,12 +2,19 @@
 """Simulates a kernel that schedules by the Multiprocessor Stack Resource Policy, and writes its log.
 
 usage: kernel_log.py [--tick NS] [--time NS] [--seed N] [--operation NS] [--switch NS] [--jitter NS] [--handover NS]
-                     [--stretch N] [--bug NAME] PLAN > LOG
+                     [--offsets NS] [--stretch N] [--bug NAME] PLAN > LOG
 
 The plan is a text that msrp reads; a tick of it lasts --tick ns. The log begins with 'msrp-log,1,CORES' and has a record
 for each event: ns,core,event,task,job,res,num,seq. Jobs take 40 to 100 percent of their work, and releases come up to
 --jitter ns late. The kernel reacts to a freed resource after --handover ns, and --switch ns of each switch are work of
-the next job. --stretch makes sections longer. Bugs: priority, lifo, two, preempt, resume, lost, ceiling."""
+the next job. --stretch makes sections longer, --offsets moves each task by up to so much. A bug begins after a third of
+the time. Once it has done something wrong that the log shows, the kernel writes the number of the record that shows it
+first, and its rule in docs/LOG.md, to standard error.
+
+Bugs: priority (the waiting job of the earliest deadline acquires), lifo (the last one), two (a request acquires what is
+held), preempt (a job that waits for a global resource or holds one is preempted), early (a job starts before its
+release), resume (no switch after an unlock), lost (nobody acquires what is freed), ceiling (an unlock doesn't lower
+the ceiling)."""
 import argparse
 import heapq
 import random
@@ -32,7 +39,7 @@ class Job:
 class Core:
     def __init__(self, number):
         self.number, self.ready, self.started = number, [], []
-        self.run, self.since, self.turn, self.busy, self.records = None, 0, 0, 0, 0
+        self.run, self.since, self.turn, self.busy, self.records, self.stuck = None, 0, 0, 0, 0, 0
 
 
 class Plan:
@@ -71,7 +78,7 @@ class Kernel:
         self.cores = [Core(c) for c in range(plan.cores)]
         self.holder, self.queue, self.tickets = {}, {}, {}
         self.agenda, self.order, self.now = [], 0, 0
-        self.bug_at = options.time // 3
+        self.bug_at, self.records, self.owes, self.shown = options.time // 3, 1, {}, None
 
     def at(self, time, what, *args):
         self.order += 1
@@ -80,25 +87,44 @@ class Kernel:
     def bug(self, name):
         return self.o.bug == name and self.now >= self.bug_at
 
+    # ---- the log, and what it shows
+    def show(self, rule):
+        """The record that is written next shows that the rule is violated."""
+        self.shown = self.shown or (self.records + 1, rule)
+
+    def owe(self, what, is_owed, wait, rule):
+        """From now on, unless it was so before, somebody should have done something within this time."""
+        if is_owed:
+            self.owes.setdefault(what, (self.now + wait, rule))
+        else:
+            self.owes.pop(what, None)
+
     def log(self, core, event, job=None, res="", num=""):
+        for _, rule in sorted((rule, rule) for until, rule in self.owes.values() if until < self.now):
+            self.show(rule)
+        self.records += 1
         core.records += 1
         print(self.now, core.number, event, job.task.name if job else "", job.k if job else "", res, num, core.records, sep=",")
 
     # ---- the policy
-    def current_ceiling(self, core):
-        if self.bug("preempt"):
-            return max([0] + [self.plan.ceiling[r] for j in core.started for r in j.held if r not in self.plan.shared])
+    def ceiling(self, core):
         for job in core.started:
             if job.waits or any(res in self.plan.shared for res in job.held):
                 return self.plan.top[core.number]
         return max([0] + [self.plan.ceiling[res] for job in core.started for res in job.held])
 
-    def choice(self, core):
+    def choice(self, core, ceiling):
         head = min(core.ready, key=lambda job: job.key, default=None)
         first = min(core.started, key=lambda job: job.key, default=None)
-        if head and head.task.level > self.current_ceiling(core) and (not first or head.key < first.key):
+        if head and head.task.level > ceiling and (not first or head.key < first.key):
             return head
         return first
+
+    def wrong_ceiling(self, core):
+        """The ceiling that the kernel uses, with its bug."""
+        if self.bug("preempt"):
+            return max([0] + [self.plan.ceiling[r] for j in core.started for r in j.held if r not in self.plan.shared])
+        return max(self.ceiling(core), core.stuck)
 
     # ---- what a core does
     def halt(self, core):
@@ -116,15 +142,22 @@ class Kernel:
             self.at(core.since + max(0, job.left), "worked", core, core.turn)
 
     def schedule(self, core):
-        job = self.choice(core)
-        if job is core.run:
-            return
+        due = self.choice(core, self.ceiling(core))
+        job = self.choice(core, self.wrong_ceiling(core))
+        if job is not core.run:
+            self.switch(core, job, due)
+        # until the core runs another, it should run the one that was due
+        self.owe(core, core.run is not self.choice(core, self.ceiling(core)), self.o.handover, "E1")
+
+    def switch(self, core, job, due):
         self.halt(core)
+        if job is not due:
+            self.show("E8")
+        self.log(core, "switch", job)
         core.run = job
         if job in core.ready:
             core.ready.remove(job)
             core.started.append(job)
-        self.log(core, "switch", job)
         self.go(core, self.o.switch)
 
     def worked(self, core, turn):
@@ -141,18 +174,27 @@ class Kernel:
         job.step += 1
         job.held = job.held + [res] if what == "lock" else job.held[:-1]
         if what == "unlock" and res in self.plan.shared:
-            self.holder[res] = None
-            if not self.bug("lost"):
-                self.at(self.now + self.o.handover, "grant", res)
-        kept = self.bug("ceiling") and what == "unlock"
-        self.operated(core, kept or what == "unlock" and self.bug("resume"))
+            self.free(res)
+        if what == "unlock" and self.bug("ceiling"):
+            core.stuck = max(core.stuck, self.plan.top[core.number] if res in self.plan.shared else self.plan.ceiling[res])
+        self.operated(core, what == "unlock" and self.bug("resume"))
 
-    def operated(self, core, resume=False):
+    def free(self, res):
+        self.holder[res] = None
+        if not self.bug("lost"):
+            self.at(self.now + self.o.handover, "grant", res)
+        elif self.queue.get(res):
+            self.owe(res, True, self.o.operation + self.o.handover, "E2")
+
+    def operated(self, core, stays=False):
         """An operation takes its time; then the core may switch."""
         core.busy = self.now + self.o.operation
         self.go(core, self.o.operation)
-        if not resume:
-            self.at(core.busy, "look", core)
+        self.at(core.busy, "stay" if stays else "look", core)
+
+    def stay(self, core):
+        """The core should switch now, and doesn't."""
+        self.owe(core, core.run is not self.choice(core, self.ceiling(core)), self.o.handover, "E1")
 
     def look(self, core):
         """The core switches, unless an operation isn't over: it looks again after that."""
@@ -169,6 +211,8 @@ class Kernel:
         free = not self.holder.get(res) and len(self.queue[res]) == 1
         if free or self.bug("two"):
             self.acquire(res, len(self.queue[res]) - 1)
+        elif self.bug("lost") and not self.holder.get(res):
+            self.owe(res, True, self.o.operation + self.o.handover, "E2")
 
     def grant(self, res):
         line = self.queue.get(res)
@@ -182,24 +226,31 @@ class Kernel:
 
     def acquire(self, res, place):
         core, job = self.queue[res].pop(place)
-        self.holder[res] = job
+        if place or self.holder.get(res):
+            self.show("E10")
         self.log(core, "acquire", job, res, job.ticket)
+        self.holder[res] = job
+        self.owes.pop(res, None)
         job.waits, job.step, job.held = None, job.step + 1, job.held + [res]
         self.operated(core, True)
 
     def end(self, core, job):
         self.log(core, "end", job)
         core.started.remove(job)
-        core.run = None
+        core.run, core.stuck = None, 0
         self.schedule(core)
 
     def release(self, task, k):
         core = self.cores[task.core]
         part = self.random.randint(40, 100)
         job = Job(task, k, task.offset + k * task.period + task.deadline, [w * part // 100 for w in task.work])
-        core.ready.append(job)
-        self.log(core, "release", job, "", job.due)
         self.at(task.offset + (k + 1) * task.period + self.random.randint(0, self.o.jitter), "release", task, k + 1)
+        if self.bug("early") and not core.run and self.shown is None:
+            # its timer fires early: it is started, and then released
+            self.show("E5")
+            self.log(core, "switch", job)
+        self.log(core, "release", job, "", job.due)
+        core.ready.append(job)
         self.look(core)
 
     def simulate(self):
@@ -207,6 +258,7 @@ class Kernel:
         for core in self.cores:
             self.log(core, "boot")
         for task in self.plan.tasks:
+            task.offset += self.random.randint(0, self.o.offsets)
             self.at(task.offset + self.random.randint(0, self.o.jitter), "release", task, 0)
         while self.agenda and self.agenda[0][0] <= self.o.time:
             self.now, _, what, args = heapq.heappop(self.agenda)
@@ -214,11 +266,13 @@ class Kernel:
         self.now = self.o.time
         for core in self.cores:
             self.log(core, "stop")
+        if self.shown:
+            print("record {} shows {}".format(*self.shown), file=sys.stderr)
 
 
 if __name__ == "__main__":
     words = argparse.ArgumentParser(description=__doc__, formatter_class=argparse.RawDescriptionHelpFormatter)
-    for name, number in [("tick", 1000), ("time", 20_000_000), ("seed", 1), ("operation", 250), ("switch", 1800), ("jitter", 4000), ("handover", 120), ("stretch", 1)]:
+    for name, number in [("tick", 10_000), ("time", 20_000_000), ("seed", 1), ("operation", 250), ("switch", 1800), ("jitter", 4000), ("handover", 120), ("offsets", 0), ("stretch", 1)]:
         words.add_argument("--" + name, type=int, default=number)
     words.add_argument("--bug", default="")
     words.add_argument("plan")

@@ -1,0 +1,2 @@
+pub mod LongDigits
+pub mod LeftRecords

@@ -1,0 +1,139 @@
+//! Whether a fault is certain: records that were lost before it may explain it, which the next
+//! numbers of the cores' records show.
+ghost use Rattle.std.specs.Prelude.{◌≡◌, ◌<◌, ◌+◌, ◌^◌, ◌==◌};
+ghost use Rattle.msrp_plan.specs.Common.{ℕ, List, Some, IfOk, set};
+ghost use Rattle.csv.specs.Records.{fields_of};
+ghost use Rattle.msrp_text.specs.Records.{records_left};
+ghost use Rattle.msrp_event_text.specs.LogEvents.{event_of};
+ghost use Rattle.msrp_event_text.specs.LogVerdicts.{Answers, confirmed_from, is_certain, is_loss, is_lost, is_lost_since, no_numbers, numbers_with, record_loses, told, told_by};
+
+use crate::events::{event_of, refusal_of};
+use crate::verdicts::{LogError, LogVerdict};
+use csv::ByteRecord;
+use msrp_events::{Action, Event, LogRule, Missing};
+use msrp_plan::Memory;
+use msrp_system::System;
+use msrp_text::records::RecordReader;
+use std::alloc::Global;
+use std::io::Read;
+
+/// The number of each core's last record, before the first one.
+pub(crate) fn no_numbers(alloc: Global, system: &System) -> Result<Vec<Option<u64>>, Memory>
+    ensures { IfOk result (λ numbers. numbers.items ≡ no_numbers system.now) }
+{
+    let numbers = vec![in alloc; None; system.cores() as usize]?;
+    Ok(numbers)
+}
+
+// Stores a number for a core, if the core is one of the system.
+fn put(numbers: &mut Vec<Option<u64>>, place: usize, number: Option<u64>)
+    ensures { numbers.new.items ≡ set numbers.old.items place number }
+{
+    if place < numbers.len() {
+        numbers[place] = number;
+    }
+}
+
+/// Stores the number of an event's record.
+pub(crate) fn note(numbers: &mut Vec<Option<u64>>, event: Event)
+    ensures { numbers.new.items ≡ numbers_with numbers.old.items event }
+{
+    put(numbers, event.core.0 as usize, event.number);
+}
+
+/// Stores that nothing is awaited of an event's core: its record follows the one before.
+pub(crate) fn tell(numbers: &mut Vec<Option<u64>>, event: Event)
+    ensures { numbers.new.items ≡ told numbers.old.items event }
+{
+    put(numbers, event.core.0 as usize, None);
+}
+
+fn is_certain(awaited: &[Option<u64>]) -> bool
+    ensures { result ≡ is_certain awaited.now }
+{
+    awaited.iter().all(|number| number.is_none())
+}
+
+fn is_loss(action: Action) -> bool
+    ensures { result ≡ is_loss action }
+{
+    matches!(action, Action::Lost)
+}
+
+// Whether a record shows that others were lost between it and the last one of its core.
+fn is_lost_since(last: Option<u64>, event: Event) -> bool
+    ensures { result ≡ is_lost_since last event }
+{
+    match (last, event.number) {
+        (Some(last), Some(number)) => is_loss(event.action) || !follows(last, number),
+        (Some(_), None) => is_loss(event.action),
+        (None, _) => false,
+    }
+}
+
+fn follows(last: u64, number: u64) -> bool
+    ensures { result ≡ (number == last + 1) }
+{
+    last < number && number - last == 1
+}
+
+fn is_lost(awaited: &[Option<u64>], event: Event) -> bool
+    ensures { result ≡ is_lost awaited.now event }
+{
+    match awaited.get(event.core.0 as usize) {
+        Some(last) => is_lost_since(*last, event),
+        None => false,
+    }
+}
+
+// Whether a record shows a loss. If it doesn't, its core has told that there was none.
+fn record_loses(
+    awaited: &mut Vec<Option<u64>>,
+    system: &System,
+    fields: &ByteRecord,
+    number: u64,
+) -> Result<bool, LogError>
+    ensures loses { result ≡ record_loses awaited.old.items number (fields_of fields.now) (event_of system.now (fields_of fields.now)) }
+    ensures told { awaited.new.items ≡ told_by awaited.old.items (event_of system.now (fields_of fields.now)) }
+{
+    match event_of(system, fields) {
+        None => Err(LogError::Record {
+            refusal: refusal_of(fields),
+            number,
+        }),
+        Some(event) => {
+            let lost = is_lost(awaited, event);
+            tell(awaited, event);
+            Ok(lost)
+        }
+    }
+}
+
+/// The verdict where the record of that number violates a rule, by the records after it.
+pub(crate) fn confirm<R: Read>(
+    awaited: &mut Vec<Option<u64>>,
+    system: &System,
+    records: &mut RecordReader<R>,
+    fields: &mut ByteRecord,
+    rule: LogRule,
+    number: u64,
+) -> Result<LogVerdict, LogError>
+    requires { number + 1 < 2 ^ 64 }
+    ensures { (left : List (List (List ℕ))) → records_left R.remaining records.old ≡ Some left → Answers result (confirmed_from system.now rule number (number + 1) awaited.old.items left) }
+{
+    for at in number + 1..u64::MAX {
+        if is_certain(awaited) {
+            return Ok(LogVerdict::Fault { rule, number });
+        }
+        if !records.read(fields)? {
+            return Ok(LogVerdict::Unconfirmed { rule, number });
+        }
+        if record_loses(awaited, system, fields, at)? {
+            return Ok(LogVerdict::Incomplete {
+                missing: Missing::Records,
+                number: at,
+            });
+        }
+    }
+    Err(LogError::Memory)
+}

@@ -1,0 +1,19 @@
+//! The text of a kernel's log, read and judged.
+//!
+//! [`audit_log`] judges the events of a text as they are read, in memory that doesn't grow with the
+//! text, and [`read_system`] reads the system. `docs/LOG.md` has both formats. Whether the fields
+//! beyond an event's own are empty isn't judged.
+#![tactic(auto)]
+
+mod actions;
+mod auditing;
+mod confirming;
+mod events;
+mod numbers;
+mod systems;
+mod verdicts;
+
+pub use auditing::audit_log;
+pub use events::{Refusal, event_of};
+pub use systems::{SystemError, SystemRefusal, read_system};
+pub use verdicts::{LogError, LogVerdict};

@@ -1,0 +1,199 @@
+//! The words of the command line.
+
+use crate::answers::Refused;
+use clap::{ArgMatches, Command};
+use msrp_cli::{STANDARD, fault_of_words, path, value_of, valued, with_arg};
+use msrp_events::Tolerances;
+use std::alloc::{AllocError, Global};
+
+/// What an audit is asked for.
+#[derive(Clone, Copy, Debug, Drop)]
+pub struct Audit<'a> {
+    pub tolerances: Tolerances,
+    /// How many ns a tick lasts, where the system is a plan in ticks.
+    pub tick: Option<u32>,
+    pub system: &'a str,
+    pub log: &'a str,
+}
+
+/// What the words ask for.
+#[derive(Debug, Drop)]
+pub enum Asked<'a> {
+    Audit(Audit<'a>),
+    Help,
+}
+
+const SYSTEM: &str = "SYSTEM";
+
+const LOG: &str = "LOG";
+
+const OPERATION: &str = "op";
+
+const SLACK: &str = "slack";
+
+const SKEW: &str = "skew";
+
+const TICK: &str = "tick";
+
+const BACKLOG: &str = "backlog";
+
+// The jobs that may be released and not ended, where the words don't say it.
+const USUAL_BACKLOG: u32 = 4_096;
+
+// The most of them that may be asked for.
+const MOST_BACKLOG: u32 = 1_000_000;
+
+fn audit_words<'a>(alloc: Global) -> Result<Command<'a>, AllocError> {
+    let made = Ok(Command::new(alloc, "audit").about("judge a log: good, or its first fault"));
+    let made = with_arg(
+        made,
+        valued(
+            alloc,
+            OPERATION,
+            "T",
+            "how long an operation on a resource takes (default 0)",
+        ),
+    );
+    let made = with_arg(
+        made,
+        valued(
+            alloc,
+            SLACK,
+            "T",
+            "how long the kernel may take to react (default 0)",
+        ),
+    );
+    let made = with_arg(
+        made,
+        valued(
+            alloc,
+            SKEW,
+            "T",
+            "how much the clocks of two cores may differ (default 0)",
+        ),
+    );
+    let made = with_arg(
+        made,
+        valued(
+            alloc,
+            TICK,
+            "T",
+            "SYSTEM is a plan in ticks that last so long",
+        ),
+    );
+    let made = with_arg(
+        made,
+        valued(
+            alloc,
+            BACKLOG,
+            "N",
+            "how many jobs may be released and not ended (default 4096)",
+        ),
+    );
+    let made = with_arg(
+        made,
+        path(alloc, SYSTEM, "path of the system; - is standard input"),
+    );
+    with_arg(
+        made,
+        path(alloc, LOG, "path of the log; - is standard input"),
+    )
+}
+
+fn grammar<'a>(alloc: Global) -> Result<Command<'a>, AllocError> {
+    Command::new(alloc, "msrp_log")
+        .about(
+            "Judges a kernel's log by the Multiprocessor Stack Resource Policy. Times are in ns, or as 5us, 2ms, 1s.",
+        )
+        .subcommand(audit_words(alloc)?)
+}
+
+// The number of these digits, if they are one.
+fn number_of(digits: &str) -> Option<u32> {
+    match digits.parse::<u32>() {
+        Ok(number) if !digits.starts_with("+") => Some(number),
+        _ => None,
+    }
+}
+
+// So many of a unit as ns, if that is below 2^32.
+fn in_ns(digits: &str, unit: u32) -> Option<u32> {
+    number_of(digits)?.checked_mul(unit)
+}
+
+/// The ns of a duration: a number, alone or with ns, us, ms or s after it.
+fn duration_of(text: &str) -> Option<u32> {
+    if let Some(digits) = text.strip_suffix("ns") {
+        in_ns(digits, 1)
+    } else if let Some(digits) = text.strip_suffix("us") {
+        in_ns(digits, 1_000)
+    } else if let Some(digits) = text.strip_suffix("ms") {
+        in_ns(digits, 1_000_000)
+    } else if let Some(digits) = text.strip_suffix("s") {
+        in_ns(digits, 1_000_000_000)
+    } else {
+        in_ns(text, 1)
+    }
+}
+
+// The duration of an argument; it may be missing.
+fn duration_at(matches: &ArgMatches<'_>, name: &str) -> Result<Option<u32>, Refused> {
+    match value_of(matches, name) {
+        None => Ok(None),
+        Some(text) => match duration_of(text) {
+            Some(duration) => Ok(Some(duration)),
+            None => Err(Refused::Usage),
+        },
+    }
+}
+
+fn backlog_at(matches: &ArgMatches<'_>) -> Result<u32, Refused> {
+    match value_of(matches, BACKLOG) {
+        None => Ok(USUAL_BACKLOG),
+        Some(text) => match number_of(text) {
+            Some(backlog) if 1 <= backlog && backlog <= MOST_BACKLOG => Ok(backlog),
+            _ => Err(Refused::Usage),
+        },
+    }
+}
+
+fn audit_of<'a>(matches: &ArgMatches<'a>) -> Result<Audit<'a>, Refused> {
+    let tolerances = Tolerances {
+        operation: duration_at(matches, OPERATION)?.unwrap_or(0),
+        slack: duration_at(matches, SLACK)?.unwrap_or(0),
+        skew: duration_at(matches, SKEW)?.unwrap_or(0),
+        backlog: backlog_at(matches)?,
+    };
+    let tick = duration_at(matches, TICK)?;
+    match (value_of(matches, SYSTEM), value_of(matches, LOG)) {
+        (Some(system), Some(log)) if system != STANDARD || log != STANDARD => Ok(Audit {
+            tolerances,
+            tick,
+            system,
+            log,
+        }),
+        _ => Err(Refused::Usage),
+    }
+}
+
+/// What the words ask for; the first is the program's name.
+pub fn asked_of<'a>(alloc: Global, words: &'a [String]) -> Result<Asked<'a>, Refused> {
+    match grammar(alloc)?.try_get_matches_from(words) {
+        Ok(matches) => match matches.subcommand() {
+            Some(("audit", matches)) => Ok(Asked::Audit(audit_of(matches)?)),
+            _ => Err(Refused::Usage),
+        },
+        Err(error) => match fault_of_words(error.kind()) {
+            None => Ok(Asked::Help),
+            Some(fault) => Err(Refused::from(fault)),
+        },
+    }
+}
+
+/// The help that the words ask for.
+pub fn help_text<'a>(alloc: Global, words: &'a [String]) -> Result<String, Refused> {
+    match grammar(alloc)?.try_get_matches_from(words) {
+        Ok(_) => Ok(grammar(alloc)?.render_help()?),
+        Err(answer) => Ok(answer.to_string(alloc)?),
+    }
+}
