@@ -1,4 +1,5 @@
--- A core followed by its own rows: the row against the turn of its machine, which answers as the row says.
+-- A core followed by its own rows: the row against the turn of its machine, which answers as the
+-- row says.
 use Rattle.std.proofs.Common.{◌≡◌, ◌∷◌, ◌++◌, ◌∙◌}
 use Rattle.msrp_plan.proofs.Common.{ℕ, zero, suc, Bool, true, false, cond, List, [], Option, Some, None, refl, ap, sym, subst, is_some, inl, inr, ForSome, true≢false, and-false, cases_Bool, and_parts, PlanModel, has_shape, is_queued, is_global, allows, same_res, log_of, kind_of_call, IsRunStart, IsCoreTurn, had_turn, is_in_turn, is_of_core, is_chosen, is_next_action, same_choice, IsPlan, IsTurn, due, turn_of, idle_res, same_res_is, same_choice_is, own_from_legal, log_own}
 use Rattle.msrp_plan.specs.declared.faults.Rule.TheVariants.{A2, A3, A4}

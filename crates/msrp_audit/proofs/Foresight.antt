@@ -161,7 +161,8 @@ by_reply true true o = refl
 by_reply true false o = refl
 by_reply false b o = refl
 
--- a row that is in its turn, of a job of its core, breaks what it breaks against the legal row of that core
+-- a row that is in its turn, of a job of its core, breaks what it breaks against the legal row of
+-- that core
 pub broken_is : (plan : PlanModel) (pre : List Row) (r s : Row) → IsLegal plan pre s → carries_its_ahead s ≡ true → is_in_turn plan pre r ≡ true → is_of_core plan r ≡ true → r.core.0 ≡ s.core.0 → broken plan pre r ≡ unlike r s
 broken_is plan pre r s legal c turn own core =
     ap (λ b. cond b (cond (is_of_core plan r) (cond (is_chosen plan pre r) (cond (is_next_action plan pre r) (cond (is_fifo_reply pre r) None (Some A5)) (Some A4)) (Some A3)) (Some A2)) (Some A1)) turn

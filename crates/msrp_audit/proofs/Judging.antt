@@ -1,4 +1,5 @@
--- What an auditor's tests say of a row: whether it is in its turn, and whether its job is one of its core.
+-- What an auditor's tests say of a row: whether it is in its turn, and whether its job is one of
+-- its core.
 use Rattle.std.proofs.Common.{◌≡◌, ◌≢◌, ◌+◌, ◌*◌, ◌/◌, ◌<◌, ◌≤◌, ◌==◌, ◌&&◌, ◌||◌, ◌∷◌, ◌++◌, ◌∙◌}
 use Rattle.msrp_plan.proofs.Common.{ℕ, zero, suc, Bool, true, false, not, cond, nat_lt, List, [], Option, Some, None, refl, ap, sym, subst, arith, length, length-append, map, inl, inr, eq-eqb, eqb-true, slice_get, list_any, flat_map, range_with_len, AllByRecursion, ⊤, option_or, true≢false, or-true, cases_Bool, cases_lt, lt-ltb, le-ltb, false_from_ne_true, eqb-false, All-contains, All-from_recursion, list_any-append, same_Some, PlanModel, core_of, job_at, jobs_of, jobs, jobs_on, same_job, IsLegal, IsRunStart, EachAfter, had_turn, is_in_turn, is_on_core, is_of_core, is_chosen, is_next_action, is_fifo_reply, log_of, IsPlan, broken, refused, fault_in, fault_or, any_in, not_equal, same_is, same_self, jobs_of_are, core_jobs_below, kept_by, on_its_core, due, legal_due, same_res_is, same_choice_is, same_kind_is, turns_when_due, fault_push, fault_stays, unbroken_is_legal, mul-le-mul_left, div-mul-add, same_res, same_choice, IfSome, IfOk, and_parts}
 use Rattle.msrp_plan.specs.declared.ids.JobId.{JobId}

@@ -1,4 +1,5 @@
--- A row in eight bytes stands for the row that it was made of; and the first rows of those that are kept so and of the others.
+-- A row in eight bytes stands for the row that it was made of; and the first rows of those that are
+-- kept so and of the others.
 use Rattle.std.proofs.Common.{◌≡◌, ◌+◌, ◌-◌, ◌∷◌, ◌++◌, ◌∙◌}
 use Rattle.msrp_plan.proofs.Common.{ℕ, zero, suc, nat_le, List, [], length, map, min, take, ap, sym, arith, length-map, take-map, same_row}
 use Rattle.std.proofs.lemmas.List.{take_min}

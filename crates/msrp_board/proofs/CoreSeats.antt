@@ -1,4 +1,5 @@
--- A core's seat, for whoever makes its calls: how it comes about, what its readers tell, and that it stays one.
+-- A core's seat, for whoever makes its calls: how it comes about, what its readers tell, and that
+-- it stays one.
 use Rattle.msrp_plan.proofs.Common.{ℕ, zero, suc, List, [], map, Bool, true, false, nat_lt, Some, None, refl, sym, subst, ap, arith, ne_eqb, slice_index_or, IsSome, list_any, AllByRecursion, dite, ℕ_discrete}
 use Rattle.msrp_plan.specs.declared.units.Phase.{Phase}
 use Rattle.std.proofs.Common.{◌==◌, ◌||◌, ◌≡◌, ◌<◌, ◌∷◌, ◌∙◌, true≢false}

@@ -1,4 +1,5 @@
--- Each step keeps the rule's part on one book, which a seat knows by itself; and what follows from it.
+-- Each step keeps the rule's part on one book, which a seat knows by itself; and what follows from
+-- it.
 use Rattle.msrp_plan.proofs.Common.{ℕ, zero, suc, List, [], Bool, true, false, refl, sym, ap, subst, arith, eq-eqb, list_any, AllByRecursion, dite, ℕ_discrete}
 use Rattle.msrp_plan.specs.declared.units.Call.{Call}
 use Rattle.msrp_plan.specs.declared.units.Call.TheVariants.{Ask, Poll, Leave}
@@ -21,7 +22,8 @@ next_place : (e : Entry) (es : List Entry) → AreBefore e.place es → ToNext (
 next_place e [] before = tt
 next_place e (f ∷ es) before = before.0
 
--- of a core that is admitted and has not acted, in its turn, with a place behind those that it has of the resource
+-- of a core that is admitted and has not acted, in its turn, with a place behind those that it has
+-- of the resource
 pub kept_more : (z : BoardSize) (b : Page) (e : Entry) → IsKeptNewest z b → e.res.0 < z.resources → AreBefore e.place (on_resource e.res.0 b.newest) → IsClaimInTurn (claim_of b.newest) e.res.0 e.call → b.admitted ≡ true → TicksNewest b.tick b.newest → e.tick ≡ b.tick
     → IsKeptNewest z (page_with e b)
 kept_more z b e kept in_board before in_turn in_tick fresh now = record {

@@ -1,4 +1,5 @@
--- Which books a seat has after a split and a join, for whoever parts all seats or joins them in a loop.
+-- Which books a seat has after a split and a join, for whoever parts all seats or joins them in a
+-- loop.
 use Rattle.std.proofs.Common.{◌≡◌, ◌≢◌, ◌∷◌, ◌∙◌}
 use Rattle.msrp_plan.proofs.Common.{ℕ, zero, suc, List, [], Some, None, refl, sym, ap, slice_index_or}
 use Rattle.std.specs.declared.option.Option.{Option}

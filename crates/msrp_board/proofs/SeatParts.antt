@@ -1,4 +1,5 @@
--- What a seat keeps of its cores, and what callers see, where a seat is parted and where two are joined.
+-- What a seat keeps of its cores, and what callers see, where a seat is parted and where two are
+-- joined.
 use Rattle.std.proofs.Common.{◌==◌, ◌≡◌, ◌<◌, ◌∷◌, ◌∙◌}
 use Rattle.msrp_plan.proofs.Common.{⊎_elim, ℕ, zero, suc, List, [], map, not, Some, None, refl, sym, ap, subst, eq-eqb, ne_eqb, option_or, dite, ℕ_discrete}
 use Rattle.std.specs.Option.{option_map}

@@ -1,4 +1,5 @@
--- A port over a core's seat: what a port asks for is what the board asks for, and a step adds one call.
+-- A port over a core's seat: what a port asks for is what the board asks for, and a step adds one
+-- call.
 use Rattle.std.proofs.Common.{◌==◌, ◌||◌, ◌≡◌, ◌≢◌, ◌<◌, ◌∷◌, ◌++◌, ◌∙◌}
 use Rattle.msrp_plan.proofs.Common.{ℕ, [], Bool, true, false, refl, sym, ap, subst, arith, eq-eqb, list_any, list_any-append, dite, ℕ_discrete, claim_after}
 use Rattle.msrp_plan.specs.declared.ids.ResId.{ResId}

@@ -1,4 +1,5 @@
--- Two lists with the same entries of each core, in one order, are equal; so books have but one history.
+-- Two lists with the same entries of each core, in one order, are equal; so books have but one
+-- history.
 use Rattle.std.proofs.Common.{◌≡◌, ◌≢◌, ◌⊎◌, ◌<◌, ◌≤◌, ◌∷◌, ◌∙◌}
 use Rattle.msrp_plan.proofs.Common.{inl, inr, ℕ, true, cond, List, [], refl, ap, sym, subst, arith, eq-eqb, ne_eqb, AllByRecursion, dite, ℕ_discrete, all_weaker}
 use Rattle.msrp_plan.specs.declared.units.Call.{Call}

@@ -29,7 +29,8 @@ words_in (Err fault) = []
 abbrev pub AreWords : List ℕ → Result Words CliFault → Type 0
 AreWords text words = OrUnread words (IsOkAnd words (λ made. made.found ≡ plan_found (plan_of (csv_records text))))
 
--- words are handed over with the plan's refusal, which is no fault of the call: a refused plan has words too
+-- words are handed over with the plan's refusal, which is no fault of the call: a refused plan has
+-- words too
 abbrev pub HandsWords : Result Words CliFault → List ℕ → List ℕ → ℕ → MsrpFound → ℕ → Type 0
 HandsWords words old new needed found status = HandsOver (refusal_in words) (words_in words) old new needed found status
 

@@ -27,7 +27,8 @@ fn explained(alloc: Global, plan: &[u8], trace: &[u8]) -> Result<Made, CliFault>
     why_of_texts(alloc, &mut plan, &mut trace)
 }
 
-/// The verdict on a trace, and in plain sentences what makes it so; of a legal trace what its run exercised. A refused text has no words.
+/// The verdict on a trace, and in plain sentences what makes it so; of a legal trace what its run
+/// exercised. A refused text has no words.
 #[unsafe(no_mangle)]
 pub extern "C" fn msrp_why(
     alloc: Global,

@@ -16,7 +16,8 @@ use Rattle.msrp_core.specs.Active.{ActiveJob, done_in, is_waiting_phase, is_newe
 use Rattle.msrp_core.proofs.HeldUnits.{held_test, next_held, locked, unlocked, whole_free}
 use Rattle.msrp_core.proofs.Choices.{at_in, others_done}
 
--- an action of the newest that is one unit, after which it holds these, and the core holds or awaits that
+-- an action of the newest that is one unit, after which it holds these, and the core holds or
+-- awaits that
 pub record IsStep (plan : PlanModel) (s : ActiveJob) (below : List ActiveJob) (after : Phase) (held : List ℕ) : Type 0 where
   pub now : held_after (take (s.done + 1) (units plan s.job)) ≡ Some held
   pub calm : is_waiting_phase after ≡ false
@@ -173,7 +174,8 @@ module _ (plan : PlanModel) (ok : IsPlan plan) (s : ActiveJob) (below : List Act
         );
       }
 
-  -- ---- a request of a global resource: by a core that isn't waiting for one it comes where it holds none
+  -- ---- a request of a global resource: by a core that isn't waiting for one it comes where it
+  -- holds none
   pub request_phase : (p : Phase) (r : ResId) → HoldSo plan p (s ∷ below) → slice_get (units plan s.job) s.done ≡ Some (Lock r) → is_global plan r.0 ≡ true → is_waiting_phase p ≡ false → p ≡ Free
   request_phase Free r h at glob calm = refl
   request_phase (Queued g) r h at glob calm = absurd (true≢false calm)

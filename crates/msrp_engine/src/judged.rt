@@ -1,7 +1,8 @@
 //! The rows of a trace's text, each judged as it is read.
 //!
-//! The text says which core's row is next. That core runs, which gives its one legal row, and the text of that row is compared with the text that is
-//! next. So a legal row is never read field by field. As long as a core's rows differ in their ticks alone, its text is made once.
+//! The text says which core's row is next. That core runs, which gives its one legal row, and the
+//! text of that row is compared with the text that is next. So a legal row is never read field by
+//! field. As long as a core's rows differ in their ticks alone, its text is made once.
 ghost use Rattle.std.specs.Prelude.{◌≡◌, ◌<◌, ◌*◌, ◌/◌, ◌%◌};
 ghost use Rattle.msrp_plan.specs.Common.{ℕ, List, IfSome, Some, None, Ok, Err, true, false, source_failed, IsPlan, is_in_turn, IsSomeAnd, length, in_tick};
 ghost use Rattle.msrp_audit.specs.Audits.{Awaits, HasFed, IsDueInAudit};
@@ -165,7 +166,8 @@ impl<'p, 't, T: Read> JudgedRows<'p, 't, T> {
         self.texts.show(&self.rows.as_read(expected));
     }
 
-    // The core's next row: its last one in the next tick, where that is known, or one that is chosen.
+    // The core's next row: its last one in the next tick, where that is known, or one that is
+    // chosen.
     #[inline(always)]
     fn expect(&mut self, core: CoreId)
         requires accepted { IsPlan self.old.auditor.plan }

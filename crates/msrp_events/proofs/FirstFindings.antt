@@ -12,7 +12,8 @@ or_assoc : {X : Type 0} (a b c : Option X) → option_or a (option_or b c) ≡ o
 or_assoc None b c = refl
 or_assoc (Some x) b c = refl
 
--- the first thing that a list shows is that of its first part, else that of the rest from the state between
+-- the first thing that a list shows is that of its first part, else that of the rest from the state
+-- between
 pub finding-append : (system : PlanModel) (tolerances : Tolerances) (s : LogState) (start rest : List Event)
     → finding_from system tolerances s (start ++ rest) ≡ option_or (finding_from system tolerances s start) (finding_from system tolerances (state_from system s start) rest)
 finding-append system tolerances s [] rest = refl

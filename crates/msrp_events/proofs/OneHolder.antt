@@ -1,4 +1,5 @@
--- In a legal log at most one job holds each resource: who locks or acquires finds that nobody holds it.
+-- In a legal log at most one job holds each resource: who locks or acquires finds that nobody holds
+-- it.
 use Rattle.std.proofs.Common.{◌≡◌, ◌+◌, ◌≤◌, ◌&&◌, ◌∷◌, ◌++◌, ◌⊎◌, ◌∙◌}
 use Rattle.msrp_plan.proofs.Common.{ℕ, zero, suc, Bool, true, false, cond, not, List, [], Option, Some, None, inl, inr, refl, ap, sym, subst, arith, get_or, set, slice_get, take, list_any, option_or, count_by, sum_by-cons, sum_by_push, slice_get_cases, get_or_from_slice_get, slice_get_within, eqb-true, PlanModel}
 use Rattle.std.specs.Prelude.{remove}

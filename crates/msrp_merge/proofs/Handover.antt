@@ -82,7 +82,8 @@ served = record {
   rising = rises;
 }
 
--- ---- its rows, and those of a handover a tick earlier: there core 0 releases where the history has a poll of core 1
+-- ---- its rows, and those of a handover a tick earlier: there core 0 releases where the history
+-- has a poll of core 1
 pub paired : Paired IsRowOfEvent (filter (is_row_on 0) handover.rows) history
 paired =
     (record { core = refl; step = record { tick = refl; resource = refl; kind = refl; ahead = tt } }, (record { core = refl; step = record { tick = refl; resource = refl; kind = refl; ahead = tt } }, (record { core = refl; step = record { tick = refl; resource = refl; kind = refl; ahead = tt } }, (record { core = refl; step = record { tick = refl; resource = refl; kind = refl; ahead = tt } }, (record { core = refl; step = record { tick = refl; resource = refl; kind = refl; ahead = tt } }, (record { core = refl; step = record { tick = refl; resource = refl; kind = refl; ahead = tt } }, (record { core = refl; step = record { tick = refl; resource = refl; kind = refl; ahead = tt } }, tt)))))))

@@ -97,7 +97,8 @@ cores_meet : (t u c e : ℕ) → u ≡ t → is_lt (nat_cmp e c) ≡ false → L
 cores_meet t u c e q h (inl l) = absurd (omega (arith, q, l))
 cores_meet t u c e q h (inr l) = let low = l.1 in let high = ge_from_not_lt e c h in omega (arith, low, high)
 
--- the second of two turns in order, in tick u, at place m, of core e, stands before the first in the history: so they are of one core
+-- the second of two turns in order, in tick u, at place m, of core e, stands before the first in
+-- the history: so they are of one core
 values_meet : (t u f g n m c e : ℕ) (b d : Bool) → f ≡ g
     → is_lt (ordering_then (nat_cmp u t) (ordering_then (ordering_then (nat_cmp g f) (ordering_then (nat_cmp m n) (bool_cmp (not d) (not b)))) (nat_cmp e c))) ≡ false → u ≤ t → Lex m n (Lex (cond d 0 1) (cond b 0 1) (Lex u t (e ≤ c))) → c ≡ e
 values_meet t u f g n m c e b d same h early l = elim (then_not_less (nat_cmp u t) _ h) [

@@ -1,4 +1,5 @@
--- Lists whose elements belong together: under filters, and where they belong together core by core and both stand in order.
+-- Lists whose elements belong together: under filters, and where they belong together core by core
+-- and both stand in order.
 use Rattle.std.proofs.Common.{◌≡◌, ◌≢◌, ◌==◌, ◌&&◌, ◌∷◌, ◌∙◌}
 use Rattle.msrp_plan.proofs.Common.{ℕ, Bool, true, false, cond, List, [], refl, ap, sym, subst, inl, inr, eq-eqb, ne_eqb, AllByRecursion, filter, cases_eq}
 use Rattle.msrp_board.specs.History.{by_core}

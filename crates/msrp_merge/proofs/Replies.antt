@@ -1,4 +1,5 @@
--- Where the steps on a resource are, in order, those of a legal history, each replies as the queue of the resource.
+-- Where the steps on a resource are, in order, those of a legal history, each replies as the queue
+-- of the resource.
 use Rattle.std.proofs.Common.{◌≡◌, ◌&&◌, ◌∷◌, ◌++◌, ◌∙◌, ◌⊎◌}
 use Rattle.msrp_plan.proofs.Common.{ℕ, Bool, true, false, cond, List, [], Option, Some, None, refl, ap, sym, subst, append-nil, append_assoc, eq-eqb, inl, inr, filter, true≢false, and_from, map-append, filter-append, PlanModel, is_queued, is_global, is_global_unit, res_of_unit, is_on, fifo, replies, counts, is_reply_of, may_carry, is_queue, EachAfter, IsLegal, is_fifo_reply, replies_on, FifoLock, free_lock, Answers, lock_after, lock_at, lock_from, IsPlan, IsTurn, DoesUnit, legal_turn, idle_res, each_push, own_from_legal, quiet_reply, Runs, Locks, Unlocks, Takes, Grants, Spins, Releases, step_of}
 use Rattle.msrp_plan.specs.declared.ids.JobId.{JobId}

@@ -9,7 +9,8 @@ use Rattle.std.proofs.Common.{◌≡◌, refl}
 use Rattle.std.specs.Option.{unwrap_or}
 use Rattle.msrp_plan.proofs.Legality.SameRow.{parts}
 
--- of a value that stands in place of one that a row lacks, what a row of this kind has is told, and what it lacks is not
+-- of a value that stands in place of one that a row lacks, what a row of this kind has is told, and
+-- what it lacks is not
 pub job_told : (kind : Kind) (job : Option JobId) (res : Option ResId) (d : JobId) → has_shape kind job res ≡ true → job_of_kind kind (unwrap_or job d) ≡ job
 job_told Idle None res d h = refl
 job_told Idle (Some x) res d h = absurd (cc)

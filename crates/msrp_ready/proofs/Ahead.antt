@@ -1,4 +1,5 @@
--- The head as a release would leave it: the first of the heap's first job and of those that it releases.
+-- The head as a release would leave it: the first of the heap's first job and of those that it
+-- releases.
 use Rattle.std.proofs.Common.{◌≡◌, ◌-◌, ◌<◌, ◌≤◌, ◌∷◌, ◌++◌, ◌∙◌}
 use Rattle.msrp_plan.proofs.Common.{ℕ, false, cond, List, [], take, drop, length, get_or, Option, Some, None, refl, ap, sym, subst, inl, inr, arith, IfSome, IfNone, IsStrictWeakOrder, All, Contains, ForSome, option_to_list, is_lt, IsUpperBound, cases_Bool, All-from_recursion, All-push, recursion_from_All, Contains-append_left, Contains-append_right, Contains-append_cases, IsPermutation-refl, PlanModel, first_ready}
 use Rattle.msrp_plan.specs.declared.ids.JobKey.{JobKey}

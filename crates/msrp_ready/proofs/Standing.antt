@@ -1,4 +1,5 @@
--- What the calendar and the heap say of the ready jobs: who stands in the heap is ready, and its first is the head.
+-- What the calendar and the heap say of the ready jobs: who stands in the heap is ready, and its
+-- first is the head.
 use Rattle.std.proofs.Common.{◌≡◌, ◌+◌, ◌<◌, ◌≤◌, ◌&&◌, ◌||◌, ◌∷◌, ◌++◌, ◌∙◌}
 use Rattle.msrp_plan.proofs.Common.{ℕ, nat_le, Bool, true, false, not, cond, List, [], map, take, drop, length, get_or, Option, Some, None, refl, ap, sym, subst, inl, inr, arith, All, Contains, filter, list_any, IsNonDecreasingBy, ForSome, is_lt, IsUpperBound, true≢false, cases_Bool, leb-true, le-leb, lt-leb, and_parts, not-true, take-append-drop, get_or-drop, length-map, get_or-map, All-contains, All-contains_itself, All-from_recursion, Contains-append_left, Contains-append_right, Contains-append_cases, IsPermutation-sym, All-permutation, Contains-permutation, PlanModel, release, key, jobs_on, same_job, is_before, least, before_order, tied, same_is, same_self, least_passes, least_in, least_some, least_of_those, any_in}
 use Rattle.msrp_plan.specs.declared.ids.JobId.{JobId}
@@ -44,7 +45,8 @@ among_kept : (p : JobId → Bool) (b : Bool) (x : JobId) (ys : List JobId) → l
 among_kept p true x ys = refl
 among_kept p false x ys = refl
 
--- of one job more: whether it is the job asked for, whether it and the job asked for stand in the other list
+-- of one job more: whether it is the job asked for, whether it and the job asked for stand in the
+-- other list
 one_more : (is here there later : Bool) → (is ≡ true → here ≡ there) → cond (not here) (is || (later && not there)) (later && not there) ≡ (is || later) && not there
 one_more true true true true e = refl
 one_more true true true false e = refl

@@ -63,7 +63,8 @@ abbrev pending : Option ℕ → ℕ → ℕ
 pending None n = 0
 pending (Some k) n = k + n
 
--- one row of the job more, of whatever kind: n spins follow before its next grant, and m in the longest wait behind
+-- one row of the job more, of whatever kind: n spins follow before its next grant, and m in the
+-- longest wait behind
 wait_step : (k : Kind) (w : Option ℕ) (best n m : ℕ) → unwrap_or w 0 ≤ best
     → max (max best (unwrap_or (wait_with k w) 0)) (max (pending (wait_with k w) n) m) ≡ max best (max (pending w (cond (is_grant k) 0 (cond (is_spin k) 1 0 + n))) (max (cond (is_queue k) n 0) m))
 wait_step Queue None best n m h = omega arith

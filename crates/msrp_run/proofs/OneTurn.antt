@@ -1,4 +1,5 @@
--- A turn through a seat port: what the machine says of its row, and what the port tells of the step, make the log's turn.
+-- A turn through a seat port: what the machine says of its row, and what the port tells of the
+-- step, make the log's turn.
 use Rattle.msrp_plan.proofs.Common.{ℕ, zero, suc, List, [], Bool, true, false, nat_lt, Option, Some, None, refl, sym, ap, subst, arith, inl, inr, not, is_some, IfSome, map, map-append, fold_push, PlanModel, is_global, is_global_unit, res_of_unit, ResCall, claim_with, claim_after, IsDueCall, kind_of_call, ahead_of_call, phase_with, phase_after, IsCoreTurn, CoreRun, is_queue, IsTurn, DoesUnit, turn_of, each_push, Runs, Locks, Unlocks, Takes, Grants, Spins, Releases, step_of}
 use Rattle.msrp_plan.specs.declared.ids.CoreId.{CoreId}
 use Rattle.msrp_plan.specs.declared.ids.JobId.{JobId}

@@ -1,4 +1,5 @@
--- A seat port keeps the promises of a port: what it is asked for the board is asked for, and a step adds one call.
+-- A seat port keeps the promises of a port: what it is asked for the board is asked for, and a step
+-- adds one call.
 use Rattle.std.proofs.Common.{◌==◌, ◌≡◌, ◌<◌, ◌≤◌, ◌∷◌, ◌++◌, ◌∙◌}
 use Rattle.msrp_plan.proofs.Common.{ℕ, List, [], map, cond, Bool, true, false, Option, Some, None, refl, sym, ap, subst, arith, eq-eqb, filter, map-append, ResCall, claim_after, IsDueCall}
 use Rattle.msrp_plan.specs.declared.ids.CoreId.{CoreId}

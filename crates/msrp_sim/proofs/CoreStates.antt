@@ -1,4 +1,5 @@
--- What decides who has the turn of a core is told by the rows of the core alone, and so by its machine.
+-- What decides who has the turn of a core is told by the rows of the core alone, and so by its
+-- machine.
 use Rattle.std.proofs.Common.{◌≡◌, ◌&&◌, ◌∙◌}
 use Rattle.msrp_plan.proofs.Common.{ℕ, not, List, [], Some, ap, sym, subst, length, slice_get, All-contains, All-from_recursion, PlanModel, is_finished, is_started, jobs_on, is_before, log_of, JobState, state_after, least_in, AreOwn, own_from_legal}
 use Rattle.msrp_plan.specs.declared.rows.Row.{Row}

@@ -46,8 +46,8 @@ turn_more core m t i =
 tick_more : (core : ℕ → ℕ → ℕ) (m t : ℕ) → first_turns core m (t + 1) 0 ≡ first_turns core m t m
 tick_more core m t = append-nil (flat_map (λ t. map (core t) (range_with_len 0 m)) (range_with_len 0 (t + 1))) ∙ flat_more (λ t. map (core t) (range_with_len 0 m)) t
 
--- so far each turn was of a core that was due, and each core has had a turn in each full tick, and in this one where it has
--- passed
+-- so far each turn was of a core that was due, and each core has had a turn in each full tick, and
+-- in this one where it has passed
 record IsReached (plan : PlanModel) (core place : ℕ → ℕ → ℕ) (t i : ℕ) : Type 0 where
   each : EachAfter (IsDueInOrder plan) [] (first_turns core plan.cores t i)
   counts : (c : ℕ) → c < plan.cores → count_by (λ d. d == c) (first_turns core plan.cores t i) ≡ t + passed (place t c) i

@@ -1,4 +1,5 @@
--- The cores after a turn stand after the rows so far and one more, which may leave out the ahead of the row that was made.
+-- The cores after a turn stand after the rows so far and one more, which may leave out the ahead of
+-- the row that was made.
 use Rattle.std.proofs.Common.{◌≡◌, ◌≢◌, ◌+◌, ◌==◌, ◌∷◌, ◌++◌, ◌∙◌}
 use Rattle.msrp_plan.proofs.Common.{ℕ, zero, suc, Bool, true, false, cond, not, List, [], Option, Some, None, IfSome, refl, ap, sym, subst, length-append, map, inl, inr, eqb-true, slice_get, slice_set, true≢false, cases_Bool, eqb-false, same_Some, fold_push, jobs_on, is_job, is_waiting, is_global, is_on, fifo, IsLegal, log_of, phase_with, phase_after, JobState, state_after, Answers, free_lock, lock_after, lock_at, ahead_of_call, claim_with, log_own, log_other}
 use Rattle.msrp_plan.specs.declared.ids.JobId.{JobId}

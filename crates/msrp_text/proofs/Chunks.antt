@@ -3,7 +3,8 @@ use Rattle.msrp_plan.proofs.Common.{ℕ, List, length, take, drop, refl, sym, ap
 use Rattle.std.proofs.Common.{◌≡◌, ◌≤◌, ◌+◌, ◌-◌, ◌++◌, ◌∙◌, take-append-drop}
 use Rattle.std.proofs.lemmas.List.{length-append}
 
--- two lists of one length, which is twice that of a chunk at most, are the same where their first and their last chunks are
+-- two lists of one length, which is twice that of a chunk at most, are the same where their first
+-- and their last chunks are
 pub ends-same : (k : ℕ) (a b : List ℕ) → length a ≡ length b → length a ≤ k + k → take k a ≡ take k b → drop (length a - k) a ≡ drop (length b - k) b → a ≡ b
 ends-same k a b size few first last =
     let m = length a - k in

@@ -1,4 +1,5 @@
--- Two cores: how they begin, what their joined seats hold in the end, and how their logs fit the settled board.
+-- Two cores: how they begin, what their joined seats hold in the end, and how their logs fit the
+-- settled board.
 use Rattle.std.proofs.Common.{◌≡◌, ◌<◌, ◌∷◌, ◌∙◌}
 use Rattle.msrp_plan.proofs.Common.{ℕ, [], Some, nat_lt, arith, sym, ap, subst, slice_get, false, lt-ltb, carries_ahead, CoreRun, PlanModel}
 use Rattle.msrp_board.specs.declared.answers.SeatPhase.TheVariants.{Waiting}
@@ -20,7 +21,8 @@ use Rattle.msrp_run.proofs.Threading.{worked_more}
 waits_at_first : (ticks : ℕ) → 0 < ticks → phase_by false false (nat_lt 0 ticks) ≡ Waiting
 waits_at_first ticks some = ap (phase_by false false) (lt-ltb 0 ticks some)
 
--- a new machine, an empty log and the seat of a core that did nothing are a core between two of its turns
+-- a new machine, an empty log and the seat of a core that did nothing are a core between two of its
+-- turns
 pub at_first : (board : BoardModel) (plan : PlanModel) (c : ℕ) (m : MachineModel) (log : LogModel) (seat : SeatModel) → m.plan ≡ plan → m.core ≡ c → StandsAfter m [] → log ≡ record { core = c; ticks = plan.ticks; turns = [] } → board.size ≡ size_of plan → 0 < plan.ticks → IsCoreSeat seat c empty_book → seat.board ≡ board
     → IsAtWork board plan c m log seat
 at_first board plan c m log seat of_plan of_core new log_is size some own on = record {

@@ -115,7 +115,8 @@ unopened-by remaining plan records None error e h =
     no-head plan records e ∙ ap (λ x. record { rows = []; refusal = Some x }) same
 unopened-by remaining plan records (Some version) error e h = absurd h
 
--- a reader that doesn't open: a read that failed, want of memory, or a text that tells a refusal alone
+-- a reader that doesn't open: a read that failed, want of memory, or a text that tells a refusal
+-- alone
 pub unopened : {R : Type 0} (remaining : R → Option (List ℕ)) (plan : PlanModel) (records : List (List (List ℕ))) (error : TraceError)
     → Opens remaining plan records (Err error) → IsError error (rows_of plan records ≡ record { rows = []; refusal = Some error })
 unopened remaining plan records error h = elim h [

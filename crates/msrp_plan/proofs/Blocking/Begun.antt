@@ -1,5 +1,5 @@
--- A row that blocks a job is of whoever runs, in an outermost section that began before the job's release: had it begun
--- later, the job would have held it up.
+-- A row that blocks a job is of whoever runs, in an outermost section that began before the job's
+-- release: had it begun later, the job would have held it up.
 use Rattle.msrp_plan.specs.Common.{ℕ, Bool, true, false, List, [], Contains, PlanModel, units, release, jobs_on, is_row_of, is_started, is_queued, done, level, is_before, in_section, is_amid, section_of, IsLegal, IsRunStart, IsPlan}
 use Rattle.msrp_plan.specs.declared.ids.JobId.{JobId}
 use Rattle.msrp_plan.specs.declared.rows.Row.{Row}
@@ -17,7 +17,8 @@ use Rattle.msrp_plan.proofs.Blocking.Sound.{IsSound, sound_push, sound_none, sho
 use Rattle.msrp_plan.proofs.Blocking.Heads.{held_up, behind_row}
 use Rattle.msrp_plan.proofs.Blocking.Sections.{outside_first, start_outside, amid_kept, section_kept, section_stays}
 
--- ---- the invariant: who stands in a section began it before the release of each earlier job that isn't started
+-- ---- the invariant: who stands in a section began it before the release of each earlier job that
+-- isn't started
 abbrev pub AreBegun : PlanModel → List Row → Type 0
 AreBegun plan pre = (c : ℕ) (k j : JobId) → Contains (jobs_on plan c) k → Contains (jobs_on plan c) j → is_amid plan pre k ≡ true → is_started pre j ≡ false → is_before plan j k ≡ true → IsBegun plan pre k (release plan j)
 

@@ -1,4 +1,5 @@
--- The bound on blocking: one outermost section of one later job, and that is within the greatest of the plan's.
+-- The bound on blocking: one outermost section of one later job, and that is within the greatest of
+-- the plan's.
 use Rattle.msrp_plan.specs.Common.{ℕ, zero, suc, Bool, true, false, cond, List, [], length, nat_lt, Contains, range_with_len, PlanModel, TaskModel, task_of, core_of, jobs, done, section_start, out, blocked_bound, count_after, blocks, continues, IsLegal, IsRunStart, EachAfter, IsPlan}
 use Rattle.msrp_plan.specs.declared.ids.JobId.{JobId}
 use Rattle.msrp_plan.specs.declared.rows.Row.{Row}

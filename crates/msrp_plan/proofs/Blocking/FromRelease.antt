@@ -1,5 +1,6 @@
--- Who blocks a job is known at its release: the first of the later jobs that are live then. So how long a job is blocked is
--- counted in one pass, by the rows that this one job makes until the blocked job starts.
+-- Who blocks a job is known at its release: the first of the later jobs that are live then. So how
+-- long a job is blocked is counted in one pass, by the rows that this one job makes until the
+-- blocked job starts.
 use Rattle.msrp_plan.specs.Common.{ℕ, Bool, true, false, not, cond, List, [], Option, Some, None, length, AllByRecursion, Contains, PlanModel, task_of, core_of, release, units, jobs, jobs_on, is_job, is_row_of, is_released, is_started, is_finished, done, level, is_before, count_after, blocks, blocked, first_later, IsLegal, IsRunStart, EachAfter, IsPlan}
 use Rattle.msrp_plan.specs.declared.ids.JobId.{JobId}
 use Rattle.msrp_plan.specs.declared.rows.Row.{Row}
@@ -23,7 +24,8 @@ use Rattle.msrp_plan.proofs.Blocking.Sound.{IsSound, sound_at, shielded, shorter
 use Rattle.msrp_plan.proofs.Blocking.Heads.{IsBehind, held_up, behind_row, blocking_row, no_later, job_on}
 use Rattle.msrp_plan.proofs.Tests.{same_tests}
 
--- ---- job o, if there is one, is later than j; no other later job presses on the level of a job that isn't started and comes no later than j
+-- ---- job o, if there is one, is later than j; no other later job presses on the level of a job
+-- that isn't started and comes no later than j
 pub record IsBlockedBy (plan : PlanModel) (pre : List Row) (j : JobId) (o : Option JobId) : Type 0 where
   pub later : (k : JobId) → o ≡ Some k → Contains (jobs_on plan (core_of plan j)) k × (is_before plan j k ≡ true)
   pub quiet : (i h : JobId) → Contains (jobs_on plan (core_of plan j)) i → Contains (jobs_on plan (core_of plan j)) h → is_job o i ≡ false → is_before plan j i ≡ true → is_started pre h ≡ false → is_before plan j h ≡ false → Presses plan pre i (level plan h.task.0) → ⊥

@@ -1,5 +1,5 @@
--- Why a later job has the turn of a core while an earlier one is released and unfinished: it runs, the earlier one isn't
--- started, and it presses itself on the level of the core's head.
+-- Why a later job has the turn of a core while an earlier one is released and unfinished: it runs,
+-- the earlier one isn't started, and it presses itself on the level of the core's head.
 use Rattle.msrp_plan.specs.Common.{ℕ, Bool, true, false, cond, List, Option, Some, None, nat_lt, Contains, PlanModel, task_of, core_of, release, jobs, jobs_on, same_job, is_released, is_started, is_finished, level, ceiling, is_before, head, running, chosen, choice, blocks, IsPlan}
 use Rattle.msrp_plan.specs.declared.ids.JobId.{JobId}
 use Rattle.msrp_plan.specs.declared.rows.Row.{Row}

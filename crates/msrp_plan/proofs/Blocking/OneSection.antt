@@ -1,5 +1,6 @@
--- One section of one later job gives all the rows that block a job: from the first such row on no other later job presses
--- on the level of a job that is still to start before, and its own job makes no row past its section.
+-- One section of one later job gives all the rows that block a job: from the first such row on no
+-- other later job presses on the level of a job that is still to start before, and its own job
+-- makes no row past its section.
 use Rattle.msrp_plan.specs.Common.{ℕ, Bool, true, false, List, [], Some, length, Contains, PlanModel, task_of, core_of, release, jobs, jobs_on, same_job, is_row_of, is_started, level, is_before, is_amid, section_of, blocks, continues, IsLegal, IsRunStart, EachAfter, IsPlan}
 use Rattle.msrp_plan.specs.declared.ids.JobId.{JobId}
 use Rattle.msrp_plan.specs.declared.rows.Row.{Row}
@@ -58,7 +59,8 @@ settled_row plan pre r j k x a false e old d =
     absurd (old.quiet x d.held.first d.other d.held.on (λ z. true≢false (sym (subst (λ y. same_job y k ≡ true) (sym z) (same_self k)) ∙ e)) d.later d.held.unstarted d.held.not_later d.held.presses)
 
 -- ---- one row more
--- a later job that has the turn presses on the level of some job that isn't started and comes no later than j
+-- a later job that has the turn presses on the level of some job that isn't started and comes no
+-- later than j
 quiet_cases : (plan : PlanModel) (c : ℕ) (pre : List Row) (r : Row) (j k i h : JobId) (a : ℕ) (mine : Bool) → is_row_of i r ≡ mine → IsPlan plan → IsSound plan pre → IsTurn plan pre r → Contains (jobs_on plan c) j → release plan j ≤ r.tick → is_started pre j ≡ false → IsSettled plan c pre j k a
     → Contains (jobs_on plan c) i → Contains (jobs_on plan c) h → i ≢ k → is_before plan j i ≡ true → is_started pre h ≡ false → is_before plan j h ≡ false → Presses plan (pre ++ r ∷ []) i (level plan h.task.0) → ⊥
 quiet_cases plan c pre r j k i h a false m ok sound turn inj l s old ini inh other b sh nb p = old.quiet i h ini inh other b sh nb (press_kept plan pre r i (level plan h.task.0) m p)

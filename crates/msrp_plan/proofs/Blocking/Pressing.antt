@@ -1,5 +1,5 @@
--- Who keeps a head from starting: a job presses on a level where it holds a local resource whose ceiling isn't below the
--- level, or holds a global resource or waits for one.
+-- Who keeps a head from starting: a job presses on a level where it holds a local resource whose
+-- ceiling isn't below the level, or holds a global resource or waits for one.
 use Rattle.msrp_plan.specs.Common.{ℕ, Bool, true, false, cond, not, List, [], map, take, Contains, list_any, filter, PlanModel, units, holds_after, jobs_on, is_row_of, is_queued, holds, done, is_global, local_ceiling, greatest, top, resources, is_held_on, is_queued_on, ceiling, in_section, is_amid, IsPlan}
 use Rattle.msrp_plan.specs.declared.ids.JobId.{JobId}
 use Rattle.msrp_plan.specs.declared.rows.Row.{Row}

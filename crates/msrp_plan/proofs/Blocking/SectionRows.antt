@@ -1,4 +1,5 @@
--- How many rows an outermost section has: counted along the run against what the units done so far may take.
+-- How many rows an outermost section has: counted along the run against what the units done so far
+-- may take.
 use Rattle.msrp_plan.specs.Common.{ℕ, zero, suc, Bool, true, false, cond, not, List, [], Some, length, slice_get, filter, range_with_len, sum_by, PlanModel, TaskModel, task_of, core_of, units, is_row_of, is_waiting, is_queued, done, is_global, is_global_unit, res_of_unit, is_on, spin_bound, in_section, section_start, count_after, is_amid, section_of, continues, IsWait, is_grant, is_grant_of, is_spin, is_spin_of, IsLegal, IsRunStart, EachAfter, JobState, IsPlan}
 use Rattle.msrp_plan.specs.declared.ids.JobId.{JobId}
 use Rattle.msrp_plan.specs.declared.ids.ResId.{ResId}
@@ -72,7 +73,8 @@ spent_grows plan task a n (suc d) m e =
 pub spent_within : (plan : PlanModel) (task : TaskModel) (a n m : ℕ) → n ≤ m → spent plan task a n ≤ spent plan task a m
 spent_within plan task a n m l = spent_grows plan task a n (m - n) m (omega (arith, l))
 
--- ---- a wait that goes on: the job stands at a lock of a global resource, and has spun s times since it joined the queue
+-- ---- a wait that goes on: the job stands at a lock of a global resource, and has spun s times
+-- since it joined the queue
 record IsInWait (plan : PlanModel) (pre : List Row) (k : JobId) (s : ℕ) : Type 0 where
   res : ResId
   unit : slice_get (units plan k) (done k pre) ≡ Some (LockUnit res)
@@ -147,7 +149,8 @@ wait_begins plan pre r k h same job unit glob res kind = record {
   spins = refl;
 }
 
--- ---- the rows of the section so far, against the n units done: q tells whether k is queued there, s how often it has spun
+-- ---- the rows of the section so far, against the n units done: q tells whether k is queued there,
+-- s how often it has spun
 -- the row counts
 abbrev in_at : PlanModel → JobId → ℕ → ℕ → Bool → ℕ
 in_at plan k a n q = cond ((q || in_section plan (units plan k) n) && (section_start plan (units plan k) n == a)) 1 0
@@ -161,7 +164,8 @@ data IsCounted (plan : PlanModel) (k : JobId) (a : ℕ) (pre : List Row) (m : �
   Doing : is_queued pre k ≡ false → m ≤ spent plan (task_of plan k) a (done k pre) → IsCounted plan k a pre m
   Waiting : is_queued pre k ≡ true → (s : ℕ) → IsInWait plan pre k s → m ≤ waited plan k a (done k pre) s → IsCounted plan k a pre m
 
--- ---- the four kinds of row, as numbers: o tells whether something is held, e whether the unit is of the section
+-- ---- the four kinds of row, as numbers: o tells whether something is held, e whether the unit is
+-- of the section
 joins_sum : (m n : ℕ) (o e : Bool) → m ≤ n → m + cond ((false || o) && e) 1 0 ≤ n + cond e (cond o 1 0 + 0) 0
 joins_sum m n true true h = omega (arith, h)
 joins_sum m n true false h = omega (arith, h)

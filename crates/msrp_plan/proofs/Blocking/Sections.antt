@@ -1,4 +1,5 @@
--- Where the outermost section of a unit begins, unit by unit, and the section of a job over its rows.
+-- Where the outermost section of a unit begins, unit by unit, and the section of a job over its
+-- rows.
 use Rattle.msrp_plan.specs.Common.{ℕ, zero, suc, Bool, true, false, cond, not, List, [], max, list_any, filter, range_with_len, AllByRecursion, PlanModel, units, holds_after, is_row_of, is_waiting, is_queued, done, greatest, resources, in_section, section_start, is_amid, section_of, JobState}
 use Rattle.msrp_plan.specs.declared.ids.JobId.{JobId}
 use Rattle.msrp_plan.specs.declared.units.Op.{Op}

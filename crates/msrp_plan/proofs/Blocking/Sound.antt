@@ -1,5 +1,6 @@
--- What holds at each place of a run, of all cores: who waits is at a lock of a global resource, no later job presses on a
--- live one, and who is started was released before every earlier job that isn't.
+-- What holds at each place of a run, of all cores: who waits is at a lock of a global resource, no
+-- later job presses on a live one, and who is started was released before every earlier job that
+-- isn't.
 use Rattle.msrp_plan.specs.Common.{ℕ, Bool, true, false, cond, not, List, [], Some, slice_get, Contains, is_lt, nat_cmp, ordering_then, PlanModel, task_of, units, release, key, is_lock_of, jobs_on, is_row_of, is_waiting, is_released, is_started, is_queued, done, is_global, level, resources, is_before, head, is_global_unit, IsLegal, EachAfter, JobState, IsPlan}
 use Rattle.msrp_plan.specs.declared.ids.JobId.{JobId}
 use Rattle.msrp_plan.specs.declared.ids.ResId.{ResId}

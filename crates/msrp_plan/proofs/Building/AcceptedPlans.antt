@@ -1,5 +1,5 @@
--- A plan that a builder takes, told call by call, is well formed: so a plan that is written out is shown to be so by
--- computing.
+-- A plan that a builder takes, told call by call, is well formed: so a plan that is written out is
+-- shown to be so by computing.
 use Rattle.msrp_plan.specs.Common.{ℕ, Bool, true, nat_lt, List, [], map, length, drop, Option, Some, None, is_none, flat_map, PlanModel, TaskModel, ReleaseTimes, Every, Listed, listed_ticks, IsPlan, empty_plan, with_resource, with_task, with_release, with_units, new_task, takes_releases, release_fault, units_of, new_fault, resource_fault, task_fault, op_fault, finish_fault}
 use Rattle.msrp_plan.specs.declared.faults.PlanFault.{PlanFault}
 use Rattle.msrp_plan.specs.declared.units.Op.{Op}

@@ -39,7 +39,8 @@ has_task es name =
 pub task_position : (es : List (String Global × Task)) (name : List ℕ) → position (λ k. bytes_eq name (string_bytes k)) (keys_of es) ≡ name_position (map (λ (u : TaskModel). u.name) (map task_view es)) name
 task_position es name = sym (position_map (bytes_eq name) string_bytes (keys_of es)) ∙ sym (ap (position (bytes_eq name)) (task_names es))
 
--- the task in a place has the name that stands there under the keys, and is what stands there under the values
+-- the task in a place has the name that stands there under the keys, and is what stands there under
+-- the values
 pub task_in : (es : List (String Global × Task)) (i : ℕ) (name : String Global) (task : Task) → name ≡ slice_index_or (keys_of es) i name → slice_get (values_of es) i ≡ Some task → slice_index_or (map task_view es) i no_task ≡ task_view (name, task)
 task_in [] i name task named at = absurd (none-some task at)
 task_in (e ∷ es) zero name task named at = ap (λ o. task_view (e.0, o)) (same_Some e.1 task at) ∙ ap (λ n. task_view (n, task)) (sym named)

@@ -35,7 +35,8 @@ holds_kept plan pre r g j e = ap (λ (s : JobState). holds_after (take s.done (u
 pub nothing_done : (pre : List Row) (j : JobId) → is_started pre j ≡ false → done j pre ≡ 0
 nothing_done pre j e = sym (length-filter (λ r. is_row_of j r && not (is_waiting r.kind)) pre) ∙ ap length (none_kept (is_row_of j) (λ r. is_row_of j r && not (is_waiting r.kind)) (λ r h. ap (λ b. b && not (is_waiting r.kind)) h) pre e)
 
--- ---- so whoever holds a resource is started, and unfinished, since whoever is finished has unlocked it
+-- ---- so whoever holds a resource is started, and unfinished, since whoever is finished has
+-- unlocked it
 pub holder_started : (plan : PlanModel) (pre : List Row) (g : ℕ) (j : JobId) → holds plan pre g j ≡ true → is_started pre j ≡ true
 holder_started plan pre g j h =
     true_from_ne_false (is_started pre j) (λ e. true≢false (sym h ∙ ap (λ n. holds_after (take n (units plan j)) g) (nothing_done pre j e)))

@@ -1,5 +1,5 @@
--- While a job holds a global resource or waits for one, no other live job of its core is before it, and its core's
--- turns are its own.
+-- While a job holds a global resource or waits for one, no other live job of its core is before it,
+-- and its core's turns are its own.
 use Rattle.msrp_plan.specs.Common.{ℕ, Bool, true, false, List, [], Some, Contains, PlanModel, jobs_on, is_row_of, done, is_global, resources, is_before, choice, IsPlan}
 use Rattle.msrp_plan.specs.declared.ids.JobId.{JobId}
 use Rattle.msrp_plan.specs.declared.rows.Row.{Row}

@@ -1,5 +1,5 @@
--- Mutual exclusion: whoever holds a global resource stands first in its queue, and a local resource is free where it
--- is locked.
+-- Mutual exclusion: whoever holds a global resource stands first in its queue, and a local resource
+-- is free where it is locked.
 use Rattle.msrp_plan.specs.Common.{ℕ, Bool, true, false, cond, not, List, [], Some, take, slice_get, PlanModel, units, is_lock_of, is_unlock_of, holds_after, is_row_of, is_waiting, is_queued, done, holds, is_global, is_global_unit, res_of_unit, IsLegal, IsRunStart, EachAfter, JobState, IsLocking, IsPlan, MutualExclusion}
 use Rattle.msrp_plan.specs.declared.ids.JobId.{JobId}
 use Rattle.msrp_plan.specs.declared.ids.ResId.{ResId}

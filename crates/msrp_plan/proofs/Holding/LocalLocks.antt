@@ -1,4 +1,5 @@
--- No local blocking: a started, unfinished job is above the ceiling of every local resource that a later job holds.
+-- No local blocking: a started, unfinished job is above the ceiling of every local resource that a
+-- later job holds.
 use Rattle.msrp_plan.specs.Common.{ℕ, Bool, true, false, List, [], Option, Some, None, slice_get, Contains, PlanModel, task_of, core_of, units, jobs_on, is_row_of, is_started, is_queued, holds, done, is_global, local_ceiling, level, resources, is_before, choice, is_global_unit, res_of_unit, IsLegal, IsRunStart, JobState, IsPlan}
 use Rattle.msrp_plan.specs.declared.ids.JobId.{JobId}
 use Rattle.msrp_plan.specs.declared.ids.ResId.{ResId}

@@ -1,4 +1,5 @@
--- Whoever holds a resource is of a task that uses it, and a resource that is used on two cores is global.
+-- Whoever holds a resource is of a task that uses it, and a resource that is used on two cores is
+-- global.
 use Rattle.msrp_plan.specs.Common.{ℕ, true, false, cond, not, List, length, take, slice_get, Some, list_any, Contains, PlanModel, TaskModel, no_task, task_at, task_of, core_of, units, is_lock_of, locks, unlocks, done, holds, uses, is_global}
 use Rattle.msrp_plan.specs.declared.ids.JobId.{JobId}
 use Rattle.msrp_plan.specs.declared.ids.ResId.{ResId}

@@ -1,4 +1,5 @@
--- What a legal row is, in relations: the tests of the rules, read as facts on its tick, core, job, unit and reply.
+-- What a legal row is, in relations: the tests of the rules, read as facts on its tick, core, job,
+-- unit and reply.
 use Rattle.msrp_plan.specs.Common.{ℕ, true, false, not, nat_lt, List, Option, Some, None, length, slice_get, Contains, PlanModel, units, core_of, jobs_on, done, is_queued, choice, has_shape, same_res, res_of_unit, is_global_unit, allows, does_unit, does_next, fifo, replies, counts, had_turn, is_in_turn, is_of_core, same_choice, is_chosen, is_next_action, replies_on, IsLegal}
 use Rattle.msrp_plan.specs.declared.ids.JobId.{JobId}
 use Rattle.msrp_plan.specs.declared.ids.ResId.{ResId}

@@ -1,4 +1,5 @@
--- On which cores a resource is used: as the users are noted one by one, and whether it is global then.
+-- On which cores a resource is used: as the users are noted one by one, and whether it is global
+-- then.
 use Rattle.msrp_plan.specs.Common.{ℕ, Bool, true, false, not, List, [], length, map, set, take, get_or, replicate, Some, Global, String, list_any, values_of, is_lock_of, is_global, PlanModel}
 use Rattle.msrp_plan.specs.declared.ids.ResId.{ResId}
 use Rattle.msrp_plan.specs.declared.tasks.Task.{Task}

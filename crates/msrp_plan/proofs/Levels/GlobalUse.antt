@@ -1,4 +1,5 @@
--- Which resources are global: those whose users are apart, and none that isn't declared; and their marks.
+-- Which resources are global: those whose users are apart, and none that isn't declared; and their
+-- marks.
 use Rattle.msrp_plan.specs.Common.{ℕ, zero, suc, Bool, true, false, not, List, [], length, map, set, replicate, Some, Global, String, list_any, values_of, PlanModel, TaskModel, task_at, no_task, is_lock_of, uses, is_global}
 use Rattle.msrp_plan.specs.declared.ids.ResId.{ResId}
 use Rattle.msrp_plan.specs.declared.tasks.Task.{Task}

@@ -1,5 +1,5 @@
--- Elements that a number tells apart, each number from a list: no more of them than numbers in the list, and any
--- sum over them is within the sum over the list.
+-- Elements that a number tells apart, each number from a list: no more of them than numbers in the
+-- list, and any sum over them is within the sum over the list.
 use Rattle.msrp_plan.specs.Common.{ℕ, Bool, true, false, cond, List, [], length, list_any, sum_by, AllByRecursion, range_with_len}
 use Rattle.std.proofs.Common.{◌≡◌, ◌≢◌, ◌+◌, ◌<◌, ◌≤◌, ◌||◌, ◌==◌, ◌∷◌, ◌++◌, refl, ap, sym, ◌∙◌, arith, eq-eqb}
 use Rattle.std.proofs.lemmas.Bool.{eqb-true}

@@ -1,4 +1,5 @@
--- The least and the greatest of what a filter keeps of a list: which elements they are, and what they are below or above.
+-- The least and the greatest of what a filter keeps of a list: which elements they are, and what
+-- they are below or above.
 use Rattle.msrp_plan.specs.Common.{ℕ, Bool, true, false, cond, List, [], map, Some, None, max, filter, AllByRecursion, Contains, least, greatest}
 use Rattle.std.proofs.Common.{◌≡◌, ◌≤◌, ◌∷◌, refl, subst, arith}
 use Rattle.std.specs.List.{fold, best_of}

@@ -1,4 +1,5 @@
--- Elements of lists: one that passes where some element does, those that a filter keeps, and one that reaches the greatest.
+-- Elements of lists: one that passes where some element does, those that a filter keeps, and one
+-- that reaches the greatest.
 use Rattle.msrp_plan.specs.Common.{ℕ, Bool, true, false, List, [], map, max, list_any, filter, Contains, greatest}
 use Rattle.std.proofs.Common.{◌≡◌, ◌<◌, ◌≤◌, ◌||◌, ◌∷◌, ◌⊎◌, refl, arith, inl, inr}
 use Rattle.std.specs.List.{fold}

@@ -1,4 +1,5 @@
--- What each element of a list meets over those before it: one element more, the parts of a list, one place.
+-- What each element of a list meets over those before it: one element more, the parts of a list,
+-- one place.
 use Rattle.msrp_plan.specs.Common.{List, [], EachAfter}
 use Rattle.std.proofs.Common.{◌≡◌, ◌∷◌, ◌++◌, refl, ap, sym, subst, append-nil, append_assoc}
 

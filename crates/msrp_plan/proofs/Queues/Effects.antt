@@ -1,5 +1,5 @@
--- What a legal row does to a global resource: six effects, each with the stands of its job before and after,
--- everyone else's unchanged, and the queue after it.
+-- What a legal row does to a global resource: six effects, each with the stands of its job before
+-- and after, everyone else's unchanged, and the queue after it.
 use Rattle.msrp_plan.specs.Common.{ℕ, Bool, true, false, cond, not, List, [], Option, Some, None, slice_get, drop, list_any, PlanModel, units, is_lock_of, is_unlock_of, is_row_of, is_waiting, is_queued, done, is_job, is_global, is_global_unit, res_of_unit, is_on, fifo, replies, is_free, is_first, IsLegal, JobState, IsLocking, IsPlan}
 use Rattle.msrp_plan.specs.declared.ids.JobId.{JobId}
 use Rattle.msrp_plan.specs.declared.ids.ResId.{ResId}

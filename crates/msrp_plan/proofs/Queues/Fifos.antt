@@ -1,4 +1,5 @@
--- The queue of a resource after one row more: a request joins its end, a release takes its front away.
+-- The queue of a resource after one row more: a request joins its end, a release takes its front
+-- away.
 use Rattle.msrp_plan.specs.Common.{ℕ, Bool, true, false, cond, List, [], Option, Some, None, length, drop, filter_map, cons_option, is_on, is_request, is_release, requester, is_release_of, fifo, is_free, is_first}
 use Rattle.msrp_plan.specs.declared.ids.JobId.{JobId}
 use Rattle.msrp_plan.specs.declared.rows.Kind.{Kind}

@@ -1,5 +1,5 @@
--- Bounded overtaking: while a job waits for a global resource, those ahead of it in the queue come to hold it, each
--- once, and nobody else does.
+-- Bounded overtaking: while a job waits for a global resource, those ahead of it in the queue come
+-- to hold it, each once, and nobody else does.
 use Rattle.msrp_plan.specs.Common.{ℕ, Bool, true, false, cond, List, [], Some, length, drop, Contains, list_any, PlanModel, is_row_of, is_queued, done, is_global, resources, is_global_unit, res_of_unit, fifo, is_first, is_on, is_free, IsLegal, IsRunStart, EachAfter, IsPlan, is_grant_of, is_grant}
 use Rattle.msrp_plan.specs.declared.ids.JobId.{JobId}
 use Rattle.msrp_plan.specs.declared.rows.Kind.{Kind}

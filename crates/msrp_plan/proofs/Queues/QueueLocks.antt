@@ -1,5 +1,5 @@
--- The queue of a global resource and the one-thread lock agree: at a turn of a core the queue replies what the lock
--- answers, and after the turn they agree again.
+-- The queue of a global resource and the one-thread lock agree: at a turn of a core the queue
+-- replies what the lock answers, and after the turn they agree again.
 use Rattle.msrp_plan.specs.Common.{ℕ, zero, suc, Bool, true, false, cond, not, List, [], Option, Some, None, IfSome, length, map, drop, list_any, Contains, AllByRecursion, PlanModel, core_of, jobs_on, is_job, same_job, holds, is_row_of, is_global, resources, fifo, replies, counts, is_free, is_first, is_on, IsLegal, IsCoreTurn, EachAfter, is_fifo_reply, replies_on, log_of, FifoLock, Answers, lock_after, kind_of_call, ahead_of_call, IsPlan}
 use Rattle.msrp_plan.specs.declared.ids.JobId.{JobId}
 use Rattle.msrp_plan.specs.declared.rows.Kind.TheVariants.{Idle, Take, Queue, Spin, Grant, Release}
@@ -179,7 +179,8 @@ cores_left : (plan : PlanModel) (f : List JobId) → map (core_of plan) (drop 1 
 cores_left plan [] = refl
 cores_left plan (y ∷ f) = refl
 
--- the row's call is answered as the lock answers it, and after the row the lock is as after the call
+-- the row's call is answered as the lock answers it, and after the row the lock is as after the
+-- call
 pub record AgreeAt (plan : PlanModel) (g : ℕ) (pre : List Row) (r : Row) (c : ℕ) (call : Call) : Type 0 where
   pub answers : Answers (lock_at plan g pre) c call
   pub next : lock_at plan g (pre ++ r ∷ []) ≡ lock_after (lock_at plan g pre) c call
@@ -277,7 +278,8 @@ agree_by plan g pre r x call ok glob queue legal job row tells e =
       | Left z m fs ↦ subst P (some_is z x (sym m.job ∙ job)) (left_agrees plan g pre r z call (sym row.kind ∙ m.kind) m queue.orderly queue.apart fs)
     ]
 
--- so after the start of a legal run, a legal row on the resource makes a call that the lock answers so
+-- so after the start of a legal run, a legal row on the resource makes a call that the lock answers
+-- so
 pub agree_at : (plan : PlanModel) (g : ℕ) (pre : List Row) (r : Row) (call : Call) → IsPlan plan → is_global plan g ≡ true → EachAfter (IsLegal plan) [] pre → IsLegal plan pre r → IsRowOfCall g r.core.0 call r → Tells (fifo g pre) call → AgreeAt plan g pre r r.core.0 call
 agree_at plan g pre r call ok glob all legal row tells = by_job r.job refl
   where

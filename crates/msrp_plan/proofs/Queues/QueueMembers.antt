@@ -1,4 +1,5 @@
--- The jobs in the queue of a global resource: each holds it or waits for it, and they are of cores that differ.
+-- The jobs in the queue of a global resource: each holds it or waits for it, and they are of cores
+-- that differ.
 use Rattle.msrp_plan.specs.Common.{ℕ, Bool, true, false, List, [], Some, length, drop, AllByRecursion, Contains, range_with_len, PlanModel, core_of, jobs_on, is_row_of, is_global, resources, fifo, is_first, IsLegal, EachAfter, IsPlan}
 use Rattle.msrp_plan.specs.declared.ids.JobId.{JobId}
 use Rattle.msrp_plan.specs.declared.rows.Kind.{Kind}

@@ -1,5 +1,5 @@
--- A row is legal by the rows of its core and those on its resource: so turns of different cores that aren't on one
--- resource commute.
+-- A row is legal by the rows of its core and those on its resource: so turns of different cores
+-- that aren't on one resource commute.
 use Rattle.msrp_plan.specs.Common.{ℕ, Bool, true, false, cond, not, nat_lt, List, [], length, Option, Some, None, filter, PlanModel, choice, does_next, is_on, fifo, is_reply_of, EachAfter, IsLegal, IsRunStart, is_in_turn, is_of_core, is_chosen, is_next_action, had_turn, same_choice, replies_on, is_of, log_of, rows_on}
 use Rattle.msrp_plan.specs.declared.ids.ResId.{ResId}
 use Rattle.msrp_plan.specs.declared.rows.Row.{Row}
@@ -39,7 +39,8 @@ reply_alike plan x pre other a (Some g) e =
     let here : is_on g.0 x.res ≡ true = ap (is_on g.0) (sym e) ∙ eq-eqb g.0 g.0 refl in
     ap (λ q. is_reply_of q x) (sym (fifo_local g.0 pre) ∙ (ap (fifo g.0) (a.on g.0 here) ∙ fifo_local g.0 other))
 
--- a row that is legal after some rows is legal after others that look alike to it, if it is its turn there
+-- a row that is legal after some rows is legal after others that look alike to it, if it is its
+-- turn there
 legal_alike : (plan : PlanModel) (x : Row) (pre other : List Row) → LookAlike plan x pre other → is_in_turn plan other x ≡ true → IsLegal plan pre x → IsLegal plan other x
 legal_alike plan x pre other a turn h = record {
   turn = turn;
@@ -181,7 +182,8 @@ first_turn plan pre r s h k tick apart =
 own_rows : (plan : PlanModel) (rows : List Row) → EachAfter (IsLegal plan) [] rows → AreOwn plan rows
 own_rows plan rows each = along (AreOwn plan) (IsLegal plan) (λ pre x own h. all_push (λ w. is_of_core plan w ≡ true) pre x own h.own) [] rows tt each
 
--- two turns of one tick, next to each other, of different cores and not on one resource, may change places
+-- two turns of one tick, next to each other, of different cores and not on one resource, may change
+-- places
 pub commuted : (plan : PlanModel) (pre post : List Row) (r s : Row) → IsRunStart plan (pre ++ r ∷ s ∷ post) → r.tick ≡ s.tick → AreApart r s → IsRunStart plan (pre ++ s ∷ r ∷ post)
 commuted plan pre post r s h tick apart =
     let front : EachAfter (IsLegal plan) [] pre = each_before (IsLegal plan) [] pre (r ∷ s ∷ post) h.each in

@@ -1,4 +1,5 @@
--- A legal run seen from one core: its rows by themselves are a run of the core, a row for each tick.
+-- A legal run seen from one core: its rows by themselves are a run of the core, a row for each
+-- tick.
 use Rattle.msrp_plan.specs.Common.{ℕ, Bool, true, false, cond, List, [], length, list_any, PlanModel, EachAfter, IsLegal, IsRun, IsRunStart, IsCoreTurn, CoreRun, had_turn, is_of_core, same_choice, log_of}
 use Rattle.msrp_plan.specs.declared.rows.Row.{Row}
 use Rattle.std.proofs.Common.{◌≡◌, ◌≢◌, ◌+◌, ◌*◌, ◌/◌, ◌<◌, ◌||◌, ◌==◌, ◌∷◌, ◌++◌, refl, ap, sym, ◌∙◌, subst, arith, append-nil, append_assoc, eq-eqb, eqb-true, length-append, mul_comm, inl, inr}
@@ -14,7 +15,8 @@ use Rattle.msrp_plan.proofs.Runs.Ticks.{IsTick, any_both, rows_in, tick_push, ti
 abbrev one_if : Bool → ℕ
 one_if b = cond b 1 0
 
--- in tick t the core has had one turn in each tick before, and one more if it has had its turn in this one
+-- in tick t the core has had one turn in each tick before, and one more if it has had its turn in
+-- this one
 abbrev HasTurns : ℕ → ℕ → List Row → Type 0
 HasTurns c t pre = length (log_of c pre) ≡ t + one_if (turned t pre c)
 

@@ -1,4 +1,5 @@
--- Determinacy: after the same rows one row of a core is legal, so that the order of the cores fixes a run.
+-- Determinacy: after the same rows one row of a core is legal, so that the order of the cores fixes
+-- a run.
 use Rattle.msrp_plan.specs.Common.{ℕ, Bool, true, false, cond, not, List, [], map, length, Option, Some, None, is_some, list_any, AllByRecursion, PlanModel, has_shape, may_carry, is_queue, carries_its_ahead, carries_ahead, without_ahead, is_queued, is_job, choice, allows, is_global_unit, res_of_unit, replies, counts, is_free, is_first, fifo, IsLegal, IsRun, IsRunStart, EachAfter, core_order}
 use Rattle.msrp_plan.specs.declared.ids.JobId.{JobId}
 use Rattle.msrp_plan.specs.declared.ids.CoreId.{CoreId}

@@ -1,4 +1,5 @@
--- The runs of the cores, put together tick by tick in whatever order of the cores, are a legal run where the queues reply so.
+-- The runs of the cores, put together tick by tick in whatever order of the cores, are a legal run
+-- where the queues reply so.
 use Rattle.msrp_plan.specs.Common.{ℕ, true, cond, List, [], length, AllByRecursion, PlanModel, EachAfter, IsLegal, IsRun, IsCoreTurn, CoreRun, is_fifo_reply, is_of, log_of}
 use Rattle.msrp_plan.specs.declared.rows.Row.{Row}
 use Rattle.std.proofs.Common.{◌≡◌, ◌*◌, ◌/◌, ◌<◌, ◌∷◌, ◌++◌, refl, ap, sym, ◌∙◌, subst, eq-eqb, append_assoc}
@@ -18,7 +19,8 @@ turn_at plan rows h pre r post e low =
     let run : CoreRun plan r.core.0 (log_of r.core.0 pre ++ r ∷ log_of r.core.0 post) = subst (CoreRun plan r.core.0) (ap (log_of r.core.0) e ∙ log_around r.core.0 pre r post refl) (h.runs r.core.0 low) in
     each_at (IsCoreTurn plan r.core.0) [] (log_of r.core.0 pre) r (log_of r.core.0 post) run
 
--- each row replies as the queue of its resource, where it is the next one of its core and the rows before it are legal
+-- each row replies as the queue of its resource, where it is the next one of its core and the rows
+-- before it are legal
 abbrev pub AreAnswered : PlanModel → List Row → Type 0
 AreAnswered plan rows = (pre : List Row) (r : Row) (post : List Row) → rows ≡ pre ++ r ∷ post → EachAfter (IsLegal plan) [] pre → IsCoreTurn plan r.core.0 (log_of r.core.0 pre) r → is_fifo_reply pre r ≡ true
 

@@ -1,4 +1,5 @@
--- The rows of one tick: of cores that differ, and once each core has had its turn the next tick begins.
+-- The rows of one tick: of cores that differ, and once each core has had its turn the next tick
+-- begins.
 use Rattle.msrp_plan.specs.Common.{ℕ, Bool, true, false, cond, List, [], length, filter, list_any, AllByRecursion, range_with_len, PlanModel, IsLegal}
 use Rattle.msrp_plan.specs.declared.rows.Row.{Row}
 use Rattle.std.proofs.Common.{◌≡◌, ◌≢◌, ◌+◌, ◌*◌, ◌/◌, ◌<◌, ◌≤◌, ◌&&◌, ◌||◌, ◌==◌, ◌∷◌, ◌++◌, ◌⊎◌, refl, ap, sym, ◌∙◌, subst, arith, append-nil, length-append, inl, inr, eq-eqb}

@@ -1,5 +1,5 @@
--- Work conservation: a core idles exactly where its released jobs are finished. Where nobody runs nobody presses on the
--- head, so it starts.
+-- Work conservation: a core idles exactly where its released jobs are finished. Where nobody runs
+-- nobody presses on the head, so it starts.
 use Rattle.msrp_plan.specs.Common.{ℕ, Bool, true, false, cond, List, [], Option, Some, None, nat_lt, length, Contains, PlanModel, release, units, has_shape, jobs_on, is_started, is_finished, done, level, ceiling, is_before, head, running, chosen, choice, IsLegal, IsRunStart, IsPlan}
 use Rattle.msrp_plan.specs.declared.ids.JobId.{JobId}
 use Rattle.msrp_plan.specs.declared.ids.ResId.{ResId}

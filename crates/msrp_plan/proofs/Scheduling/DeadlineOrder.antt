@@ -1,5 +1,5 @@
--- Earliest deadline first: whoever starts is the head, above the ceiling and before whoever runs; whoever goes on runs, and
--- a head before it isn't above the ceiling.
+-- Earliest deadline first: whoever starts is the head, above the ceiling and before whoever runs;
+-- whoever goes on runs, and a head before it isn't above the ceiling.
 use Rattle.msrp_plan.specs.Common.{ℕ, Bool, true, false, cond, List, [], Option, Some, None, nat_lt, PlanModel, jobs_on, is_started, level, ceiling, is_before, head, running, chosen, choice, IsLegal, IsRunStart}
 use Rattle.msrp_plan.specs.declared.ids.JobId.{JobId}
 use Rattle.msrp_plan.specs.declared.rows.Row.{Row}

@@ -1,4 +1,5 @@
--- A core that is due has a legal next row: its job has a unit left, and the queue answers what that unit asks.
+-- A core that is due has a legal next row: its job has a unit left, and the queue answers what that
+-- unit asks.
 use Rattle.msrp_plan.specs.Common.{ℕ, Bool, true, false, not, List, [], Option, Some, None, length, nat_lt, slice_get, get_or, is_some, Contains, PlanModel, units, is_lock_of, has_shape, is_queue, may_carry, jobs_on, same_job, is_queued, done, is_before, choice, allows, same_res, res_of_unit, is_global_unit, does_unit, fifo, replies, counts, is_free, is_first, IsLegal, EachAfter, had_turn, same_choice, replies_on, log_of, IsDueCore, IsPlan}
 use Rattle.msrp_plan.specs.declared.ids.JobId.{JobId}
 use Rattle.msrp_plan.specs.declared.ids.ResId.{ResId}

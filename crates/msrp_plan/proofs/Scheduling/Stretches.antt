@@ -1,5 +1,6 @@
--- A core's row that stands again in the next tick. After a row that works, idles or polls in vain, its own tick's choice
--- still names its job; where nobody is released the next tick's choice is the same.
+-- A core's row that stands again in the next tick. After a row that works, idles or polls in vain,
+-- its own tick's choice still names its job; where nobody is released the next tick's choice is the
+-- same.
 use Rattle.msrp_plan.specs.Common.{ℕ, Bool, true, false, cond, not, List, [], map, Option, Some, None, nat_lt, length, max, slice_get, filter, list_any, AllByRecursion, Contains, PlanModel, task_of, release, units, no_task, has_shape, jobs_on, is_row_of, is_waiting, is_released, is_started, is_finished, is_queued, done, holds, JobState, state_after, is_global, local_ceiling, greatest, top, level, ceiling, is_held_on, is_queued_on, resources, is_before, least, head, running, chosen, choice, allows, does_next, does_unit, does_unit_after, same_res, is_global_unit, IsCoreTurn, same_choice, in_tick, HasWork}
 use Rattle.msrp_plan.specs.declared.ids.JobId.{JobId}
 use Rattle.msrp_plan.specs.declared.ids.ResId.{ResId}
@@ -365,7 +366,8 @@ next_by_states plan c log other r (Some j) same on =
     let s = All-contains (λ j. state_after log j ≡ state_after other j) (jobs_on plan c) j (All-from_recursion (λ j. state_after log j ≡ state_after other j) (jobs_on plan c) same) (on j refl) in
     ap (λ (s : JobState). does_unit_after plan j s.queued s.done r) s
 
--- the choice, the action and the tick look at the states of the core's jobs and the number of its rows alone
+-- the choice, the action and the tick look at the states of the core's jobs and the number of its
+-- rows alone
 pub turns_by_states : (plan : PlanModel) (c : ℕ) (log other : List Row) (r : Row) → length log ≡ length other → map (state_after log) (jobs_on plan c) ≡ map (state_after other) (jobs_on plan c) → IsCoreTurn plan c log r → IsCoreTurn plan c other r
 turns_by_states plan c log other r size states h =
     let same : SameStates plan c log other = images_same (state_after log) (state_after other) (jobs_on plan c) states in

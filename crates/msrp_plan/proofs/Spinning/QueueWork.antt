@@ -1,4 +1,5 @@
--- The work of the jobs in a queue: each legal row leaves it or takes some off, and the first's own rows take one off.
+-- The work of the jobs in a queue: each legal row leaves it or takes some off, and the first's own
+-- rows take one off.
 use Rattle.msrp_plan.specs.Common.{ℕ, Bool, true, false, cond, List, [], Option, Some, None, nat_lt, drop, AllByRecursion, Contains, sum_by, section, ceiling, resources, choice, chosen, head, is_before, running, is_row_of, jobs_on, is_global, level, PlanModel, core_of, fifo, is_first, is_on, EachAfter, IsLegal, IsPlan}
 use Rattle.msrp_plan.specs.declared.ids.JobId.{JobId}
 use Rattle.msrp_plan.specs.declared.rows.Kind.{Kind}

@@ -1,4 +1,5 @@
--- How often a waiting job spins: at the end of each tick the spins so far and the work ahead are within the work that was ahead at first.
+-- How often a waiting job spins: at the end of each tick the spins so far and the work ahead are
+-- within the work that was ahead at first.
 use Rattle.msrp_plan.specs.Common.{ℕ, Bool, true, false, cond, List, [], Some, drop, slice_get, AllByRecursion, Contains, list_any, resources, is_row_of, done, is_grant, is_grant_of, is_spin, is_spin_of, is_global, PlanModel, core_of, units, is_lock_of, res_of_unit, fifo, is_first, is_on, EachAfter, IsLegal, IsPlan}
 use Rattle.msrp_plan.specs.declared.ids.JobId.{JobId}
 use Rattle.msrp_plan.specs.declared.rows.Kind.{Kind}

@@ -1,4 +1,5 @@
--- How units nest: one unit more, and what is held by how often each resource was locked and unlocked.
+-- How units nest: one unit more, and what is held by how often each resource was locked and
+-- unlocked.
 use Rattle.msrp_plan.specs.Common.{ℕ, suc, zero, nat_eq, Bool, true, false, cond, List, [], length, take, replicate, Option, Some, None, count_by, list_any, option_and_then, PlanModel, locks, unlocks, is_lock_of, is_unlock_of, held_with, held_after, IsLocking, IsNestedAt}
 use Rattle.msrp_plan.specs.declared.ids.ResId.{ResId}
 use Rattle.msrp_plan.specs.declared.units.Op.{Op}

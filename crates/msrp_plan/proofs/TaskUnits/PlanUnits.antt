@@ -1,4 +1,5 @@
--- What a well-formed plan says of the units of any task number, also of one that it lacks: that has no unit.
+-- What a well-formed plan says of the units of any task number, also of one that it lacks: that has
+-- no unit.
 use Rattle.msrp_plan.specs.Common.{ℕ, List, [], Some, length, slice_get, Contains, PlanModel, TaskModel, no_task, task_at, locks, unlocks, IsLocking, IsPlan}
 use Rattle.msrp_plan.specs.declared.units.Op.{Op}
 use Rattle.std.proofs.Common.{◌≡◌, ◌<◌, ◌≤◌, refl, ap, sym, ◌∙◌, subst, inl, inr}

@@ -1,4 +1,5 @@
--- How often the units behind lock and unlock a resource, and whether they hold it, over one unit more.
+-- How often the units behind lock and unlock a resource, and whether they hold it, over one unit
+-- more.
 use Rattle.msrp_plan.specs.Common.{ℕ, Bool, true, false, cond, List, Some, take, slice_get, PlanModel, is_lock_of, is_unlock_of, holds_after, IsLocking}
 use Rattle.msrp_plan.specs.declared.units.Op.{Op}
 use Rattle.std.proofs.Common.{◌≡◌, ◌+◌, refl, ap, ◌∙◌, arith}
