@@ -1,6 +1,6 @@
 -- Rows as numbers that are judged one by one.
-use Rattle.std.proofs.Common.{◌≡◌, ◌++◌, ◌∷◌, ◌+◌, ◌<◌, ◌∙◌}
-use Rattle.msrp_plan.proofs.Common.{[], ℕ, Bool, cond, length, map, take, drop, get_or, List, None, Some, Result, Ok, Err, refl, ap, sym, arith, append-nil, append_assoc, take-append-add, length-map, map-append, take-append-drop, take_more, filter_map-append, slice_get_past, filter_map, option_and_then, slice_get, PlanModel, fault_in, verdict, fault_stays}
+use Rattle.std.proofs.Common.{◌≡◌, ◌++◌, ◌∷◌, ◌+◌, ◌∙◌}
+use Rattle.msrp_plan.proofs.Common.{[], ℕ, Bool, cond, length, map, take, drop, List, None, Some, Result, Ok, Err, refl, ap, sym, arith, append-nil, take-append-add, length-map, map-append, filter_map-append, slice_get_past, filter_map, option_and_then, slice_get, PlanModel, fault_in, verdict, fault_stays}
 use Rattle.msrp_plan.specs.declared.faults.Fault.{Fault}
 use Rattle.msrp_plan.specs.declared.rows.Row.{Row}
 use Rattle.std.specs.List.{prefix_len, take_while}
@@ -72,23 +72,9 @@ pub record Comes {A : Type 0} (f : A → Result Row TraceFault) (turns : List A)
   pub front : map f (take (i + 1) turns) ≡ readings rows ++ x ∷ []
   pub whole : map f turns ≡ readings rows ++ x ∷ map f (drop (i + 1) turns)
 
-pub comes : {A : Type 0} (f : A → Result Row TraceFault) (turns : List A) (i : ℕ) (rows : List Row) (x : Result Row TraceFault) (d : A) → i < length turns → map f (take i turns) ≡ readings rows → x ≡ f (get_or turns i d) → Comes f turns i rows x
-comes f turns i rows x d less before reads =
-    let front : map f (take (i + 1) turns) ≡ readings rows ++ x ∷ [] =
-    ap (map f) (take_more turns i d less) ∙ (map-append f (take i turns) (get_or turns i d ∷ []) ∙ (ap (λ xs. xs ++ f (get_or turns i d) ∷ []) before ∙ ap (λ y. readings rows ++ y ∷ []) (sym reads))) in
-    record {
-      front = front;
-      whole = ap (map f) (sym (take-append-drop (i + 1) turns)) ∙ (map-append f (take (i + 1) turns) (drop (i + 1) turns) ∙ (ap (λ xs. xs ++ map f (drop (i + 1) turns)) front ∙ append_assoc (readings rows) (x ∷ []) (map f (drop (i + 1) turns))));
-    }
-
 -- a row more is a reading more
 pub reading-more : (rows : List Row) (r : Row) → readings (rows ++ r ∷ []) ≡ readings rows ++ Ok r ∷ []
 reading-more rows r = map-append (λ x. Ok x) rows (r ∷ [])
-
-pub row-told : {A : Type 0} (f : A → Result Row TraceFault) (turns : List A) (i : ℕ) (rows : List Row) (r : Row) → Comes f turns i rows (Ok r) → (told_in (map f turns)).rows ≡ (rows ++ r ∷ []) ++ (told_in (map f (drop (i + 1) turns))).rows
-row-told f turns i rows r h =
-    let rest = map f (drop (i + 1) turns) in
-    ap (λ xs. (told_in xs).rows) (h.whole ∙ (sym (append_assoc (readings rows) (Ok r ∷ []) rest) ∙ ap (λ xs. xs ++ rest) (sym (reading-more rows r)))) ∙ some-told (rows ++ r ∷ []) rest
 
 -- ---- what is found
 pub fault-in-told : (so_far : Bool) (plan : PlanModel) (told : Told) (rows rest : List Row) (fault : Fault) → told.rows ≡ rows ++ rest → fault_in plan rows ≡ Some fault → finding_in so_far plan told ≡ Ok (Err fault)

@@ -1,6 +1,6 @@
 -- The number that a plan has for a name.
 use Rattle.std.specs.Prelude.{◌≡◌, ◌↔◌}
-use Rattle.msrp_plan.specs.Common.{ℕ, Bool, Option, Some, None, true, false, Ok, Err, IfOk, IfErr, Result, PlanModel, ⊤}
+use Rattle.msrp_plan.specs.Common.{ℕ, Bool, Option, Some, None, true, false, Ok, Err, IfOk, IfErr, Result, PlanModel}
 use Rattle.msrp_engine.specs.Answered.{OrUnread}
 use Rattle.msrp_faults.specs.Outcomes.{fault_of}
 use Rattle.msrp_faults.specs.declared.faults.CliFault.{CliFault}
