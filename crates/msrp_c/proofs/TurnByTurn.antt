@@ -1,6 +1,6 @@
 -- Rows as numbers that are judged one by one.
 use Rattle.std.proofs.Common.{◌≡◌, ◌++◌, ◌∷◌, ◌+◌, ◌∙◌}
-use Rattle.msrp_plan.proofs.Common.{[], ℕ, Bool, cond, length, map, take, drop, List, None, Some, Result, Ok, Err, refl, ap, sym, arith, append-nil, take-append-add, length-map, map-append, filter_map-append, slice_get_past, filter_map, option_and_then, slice_get, PlanModel, fault_in, verdict, fault_stays}
+use Rattle.msrp_plan.proofs.Common.{[], ℕ, Bool, cond, length, map, take, List, None, Some, Result, Ok, Err, refl, ap, sym, arith, append-nil, take-append-add, length-map, map-append, filter_map-append, slice_get_past, filter_map, option_and_then, slice_get, PlanModel, fault_in, verdict, fault_stays}
 use Rattle.msrp_plan.specs.declared.faults.Fault.{Fault}
 use Rattle.msrp_plan.specs.declared.rows.Row.{Row}
 use Rattle.std.specs.List.{prefix_len, take_while}
@@ -67,11 +67,6 @@ all-told rows =
     ∙ ap (λ o. record { rows = rows; refusal = option_and_then (refusal_at (length xs + 1)) o }) past)
 
 -- ---- one turn more
--- the first turns tell rows, and the next one reads so
-pub record Comes {A : Type 0} (f : A → Result Row TraceFault) (turns : List A) (i : ℕ) (rows : List Row) (x : Result Row TraceFault) : Type 0 where
-  pub front : map f (take (i + 1) turns) ≡ readings rows ++ x ∷ []
-  pub whole : map f turns ≡ readings rows ++ x ∷ map f (drop (i + 1) turns)
-
 -- a row more is a reading more
 pub reading-more : (rows : List Row) (r : Row) → readings (rows ++ r ∷ []) ≡ readings rows ++ Ok r ∷ []
 reading-more rows r = map-append (λ x. Ok x) rows (r ∷ [])
