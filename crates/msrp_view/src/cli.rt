@@ -1,7 +1,7 @@
 //! The command line: the arguments of a command, and what they ask for.
 ghost use Rattle.std.specs.Prelude.{◌≡◌, ◌⊎◌};
-ghost use Rattle.msrp_plan.specs.Common.{codes, false, map, option_map, string_bytes, Err, IfErr, IfOk, Some, is_ascii_digit, list_all};
-ghost use Rattle.clap.specs.Words.{app_of, fault_of, found_of, matches_of, new_app, new_rule, rows_of, rule_of};
+ghost use Rattle.msrp_plan.specs.Common.{false, map, option_map, string_bytes, Err, IfErr, IfOk, Some, is_ascii_digit, list_all};
+ghost use Rattle.clap.specs.Words.{app_of, fault_of, found_of, matches_of, rows_of, rule_of};
 ghost use Rattle.msrp_view.specs.CommandLine.{IsAnswered, IsAsked};
 ghost use Rattle.msrp_view.specs.CommandLine as line;
 
@@ -49,34 +49,6 @@ pub enum Cmd<'a> {
     Version,
 }
 
-// What the help says of the program and of each argument.
-const ABOUT: &str =
-    "MSRP 0.2.0, shows a trace of a plan: a picture, the reasons of its verdict, or a file for another tool";
-
-const SVG_HELP: &str = "SVG picture, for a browser or a document";
-
-const FROM_HELP: &str =
-    "first tick of the picture (default: 0; near the fault if neither tick is given)";
-
-const TO_HELP: &str =
-    "end tick of the picture, exclusive (default: end of the trace, at most 200 ticks after the first)";
-
-const WHY_HELP: &str =
-    "explain in words: why the plan is refused or what is odd in it; with a trace, its first faulty row";
-
-const VCD_HELP: &str = "value change dump of the whole trace, for GTKWave and other wave viewers";
-
-const GTKW_HELP: &str = "save file for GTKWave, with which it shows all signals of the dump";
-
-const PERFETTO_HELP: &str = "trace events (JSON) of the whole trace, for ui.perfetto.dev";
-
-const HTML_HELP: &str = "page for a browser: the verdict and its reasons, a timeline, a report";
-
-const TICK_HELP: &str =
-    "length of a tick, for the times of the page, such as 10us; units: ns, us, ms, s";
-
-const TRACE_HELP: &str = "path of the trace; - is standard input; only --why works without it";
-
 fn version<'a>(alloc: Global) -> Arg<'a>
     ensures rule { rule_of result ≡ line.version }
     ensures own { result.global ≡ false }
@@ -90,21 +62,35 @@ fn version<'a>(alloc: Global) -> Arg<'a>
 fn grammar<'a>(alloc: Global) -> Result<Command<'a>, AllocError>
     ensures { IfOk result (λ command. app_of command ≡ line.grammar) }
 {
-    let made = Ok(Command::new(alloc, "msrp_view").about(ABOUT));
-    let made = with_arg(made, flag(alloc, "text", "plain-text picture (default)"));
-    let made = with_arg(made, flag(alloc, "svg", SVG_HELP));
-    let made = with_arg(made, valued(alloc, "from", "T", FROM_HELP));
-    let made = with_arg(made, valued(alloc, "to", "T", TO_HELP));
-    let made = with_arg(made, flag(alloc, "why", WHY_HELP));
-    let made = with_arg(made, flag(alloc, "vcd", VCD_HELP));
-    let made = with_arg(made, flag(alloc, "gtkw", GTKW_HELP));
-    let made = with_arg(made, flag(alloc, "perfetto", PERFETTO_HELP));
-    let made = with_arg(made, flag(alloc, "html", HTML_HELP));
-    let made = with_arg(made, valued(alloc, "tick", "LENGTH", TICK_HELP));
-    let made = with_arg(made, version(alloc));
+    let about =
+        "MSRP 0.2.0, shows a trace of a plan: a picture, the reasons of its verdict, or a file for another tool";
+    let svg = "SVG picture, for a browser or a document";
+    let from = "first tick of the picture (default: 0; near the fault if neither tick is given)";
+    let to =
+        "end tick of the picture, exclusive (default: end of the trace, at most 200 ticks after the first)";
+    let why =
+        "explain in words: why the plan is refused or what is odd in it; with a trace, its first faulty row";
+    let vcd = "value change dump of the whole trace, for GTKWave and other wave viewers";
+    let gtkw = "save file for GTKWave, with which it shows all signals of the dump";
+    let perfetto = "trace events (JSON) of the whole trace, for ui.perfetto.dev";
+    let html = "page for a browser: the verdict and its reasons, a timeline, a report";
+    let tick = "length of a tick, for the times of the page, such as 10us; units: ns, us, ms, s";
+    let trace = "path of the trace; - is standard input; only --why works without it";
     let plan = "path of the plan; - is standard input";
+    let made = Ok(Command::new(alloc, "msrp_view").about(about));
+    let made = with_arg(made, flag(alloc, "text", "plain-text picture (default)"));
+    let made = with_arg(made, flag(alloc, "svg", svg));
+    let made = with_arg(made, valued(alloc, "from", "T", from));
+    let made = with_arg(made, valued(alloc, "to", "T", to));
+    let made = with_arg(made, flag(alloc, "why", why));
+    let made = with_arg(made, flag(alloc, "vcd", vcd));
+    let made = with_arg(made, flag(alloc, "gtkw", gtkw));
+    let made = with_arg(made, flag(alloc, "perfetto", perfetto));
+    let made = with_arg(made, flag(alloc, "html", html));
+    let made = with_arg(made, valued(alloc, "tick", "LENGTH", tick));
+    let made = with_arg(made, version(alloc));
     let made = with_arg(made, path(alloc, PLAN, plan));
-    with_arg(made, Arg::new(alloc, TRACE).help(TRACE_HELP))
+    with_arg(made, Arg::new(alloc, TRACE).help(trace))
 }
 
 /// The text of the help.
@@ -115,6 +101,12 @@ pub fn help_text(alloc: Global) -> Result<String, CliFault>
     Ok(command.render_help()?)
 }
 
+fn are_digits(text: &[u8]) -> bool
+    ensures { result ≡ list_all is_ascii_digit text.now }
+{
+    text.iter().all(|byte| byte.is_ascii_digit())
+}
+
 // The tick of an argument, if it is given: digits alone.
 fn tick_of(word: Option<&str>) -> Result<Option<u32>, CliFault>
     ensures value { result ≡ line.tick_of (option_map (λ word. word.now) word.entry) }
@@ -123,7 +115,7 @@ fn tick_of(word: Option<&str>) -> Result<Option<u32>, CliFault>
     let Some(word) = word else {
         return Ok(None);
     };
-    if !word.as_bytes().iter().all(|byte| byte.is_ascii_digit()) {
+    if !are_digits(word.as_bytes()) {
         return Err(CliFault::Usage);
     }
     match word.parse() {

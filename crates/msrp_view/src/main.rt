@@ -19,19 +19,14 @@ use std::{env, fs, io};
 // Output is gathered into writes of this many bytes.
 const GATHERED: usize = 65_536;
 
-// The file in which a release names its kit and its commit.
-const RELEASE: &str = "share/doc/msrp/BUILD-INFO";
-
-// Its text for a program outside of a release.
+// The kit and the commit of a program outside of a release.
 const NO_RELEASE: &[u8] = b"kit: unknown\ncommit: unknown\n";
 
-// What a plan from standard input is called.
-const STANDARD_INPUT: &str = "<stdin>";
-
+// The text of the file in which a release names its kit and its commit.
 fn release_info(rt: &HostRuntime) -> Option<Vec<u8>> {
     let program = env::current_exe(rt).ok()?;
     let top = program.parent()?.parent()?;
-    let path = top.join(rt.alloc(), RELEASE).ok()?;
+    let path = top.join(rt.alloc(), "share/doc/msrp/BUILD-INFO").ok()?;
     fs::read(rt, path.as_path()).ok()
 }
 
@@ -46,7 +41,7 @@ fn answer<W: Write>(rt: &HostRuntime, cmd: Cmd<'_>, out: &mut Sink<W>) -> Result
             write_answer(out, release, Ok(0))
         }
         Cmd::WhyPlan { plan } => {
-            let name = if plan == "-" { STANDARD_INPUT } else { plan };
+            let name = if plan == "-" { "<stdin>" } else { plan };
             why_plan_text(alloc, name, &mut Source::new(open(rt, plan)?), out)
         }
         Cmd::Show {

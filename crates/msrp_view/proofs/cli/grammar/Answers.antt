@@ -1,10 +1,15 @@
+use Rattle.std.proofs.Common.{◌≡◌}
+use Rattle.msrp_plan.proofs.Common.{rules, codes}
+use Rattle.clap.specs.Words.{app_of, new_app, new_rule, rule_of}
 use Rattle.msrp_view.specs.CommandLine.{grammar}
 use Rattle.msrp_view.proofs.cli.grammar.Goals as goal
 
 pub returns : goal.returns
 unfolding grammar
 returns c =
-    let text = c.with_arg-made.ensures _ _ c.program.ensures c.flag.ensures.rule c.flag.ensures.own in
+    let begun : app_of c.about.result ≡ new_app (codes "msrp_view") = search rules in
+    let trace : rule_of c.help.result ≡ new_rule (codes "TRACE") = search rules in
+    let text = c.with_arg-made.ensures _ _ begun c.flag.ensures.rule c.flag.ensures.own in
     let svg = c.with_arg-made-2.ensures _ _ text c.flag-2.ensures.rule c.flag-2.ensures.own in
     let from = c.with_arg-made-3.ensures _ _ svg c.valued.ensures.rule c.valued.ensures.own in
     let to = c.with_arg-made-4.ensures _ _ from c.valued-2.ensures.rule c.valued-2.ensures.own in
@@ -16,4 +21,4 @@ returns c =
     let tick = c.with_arg-made-10.ensures _ _ html c.valued-3.ensures.rule c.valued-3.ensures.own in
     let version = c.with_arg-made-11.ensures _ _ tick c.version.ensures.rule c.version.ensures.own in
     let plan = c.with_arg-made-12.ensures _ _ version c.path.ensures.rule c.path.ensures.own in
-    c.with_arg.ensures _ _ plan c.optional.ensures.rule c.optional.ensures.own
+    c.with_arg.ensures _ _ plan trace (search rules)
