@@ -52,8 +52,9 @@ fn write_track(text: &mut String, plan: &Plan, scope: &str, track: Track) -> Wri
     Ok(())
 }
 
-/// Sets the marker to the tick of a fault, and shows the ticks around it.
+/// Sets the marker to the tick of a fault, with all ticks up to it in sight: 200 pixels show 2 to
+/// the power of the zoom ticks.
 pub(crate) fn write_fault(text: &mut String, tick: u32) -> Written {
-    let from = tick.saturating_sub(8);
-    writeln!(text, "[timestart] {from}\n*-2 {tick}")
+    let zoom = (tick / 3).max(3).ilog2().saturating_add(1);
+    writeln!(text, "*-{zoom} {tick}")
 }
