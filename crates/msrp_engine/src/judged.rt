@@ -71,6 +71,16 @@ pub struct JudgedRows<'p, 't, T> {
     ghost kept: { KeepsRows rows.version auditor.plan auditor.cores texts lasts },
 }
 
+// No core's row.
+const NO_ROW: Row = Row {
+    tick: 0,
+    core: CoreId(0),
+    kind: Kind::Idle,
+    job: None,
+    res: None,
+    ahead: None,
+};
+
 // Keeps the row of a core.
 #[inline(always)]
 fn keep_row(lasts: &mut [Option<Row>], core: CoreId, row: Row)
@@ -198,17 +208,10 @@ impl<'p, 't, T: Read> JudgedRows<'p, 't, T> {
         ensures tick { result.tick ≡ tick }
         ensures kept { IsKept self.now.rows.version self.now.auditor.plan (text_of_core self.now.texts core.0) result }
     {
-        match kept_row(&self.lasts, core) {
-            Some(last) => last.in_tick(tick),
-            None => Row {
-                tick,
-                core,
-                kind: Kind::Idle,
-                job: None,
-                res: None,
-                ahead: None,
-            },
-        }
+        let Some(last) = kept_row(&self.lasts, core) else {
+            return NO_ROW;
+        };
+        last.in_tick(tick)
     }
 
     // A row that was read in its turn, compared with the expected one.

@@ -218,9 +218,9 @@ pub(crate) fn begins_with(text: &[u8], front: &[u8]) -> bool
     is_short_same(&text[..count], front)
 }
 
-// Whether a text begins with another; without a call if that has 8 to 64 bytes, as most rows have.
+// Whether a text begins with another; without a call if that has 8 to 64 bytes.
 #[inline(always)]
-pub(crate) fn begins_with_long(text: &[u8], front: &[u8]) -> bool
+fn begins_with_any(text: &[u8], front: &[u8]) -> bool
     ensures begins { result ≡ true → (after : List ℕ) × (text.now ≡ front.now ++ after) }
     ensures finds { (after : List ℕ) → text.now ≡ front.now ++ after → result ≡ true }
 {
@@ -241,6 +241,25 @@ pub(crate) fn begins_with_long(text: &[u8], front: &[u8]) -> bool
             return false;
         }
     } else if !is_longest_same(text, front) {
+        return false;
+    }
+    true
+}
+
+// The same, soonest if the other has 17 to 32 bytes, as most rows have.
+#[inline(always)]
+pub(crate) fn begins_with_long(text: &[u8], front: &[u8]) -> bool
+    ensures begins { result ≡ true → (after : List ℕ) × (text.now ≡ front.now ++ after) }
+    ensures finds { (after : List ℕ) → text.now ≡ front.now ++ after → result ≡ true }
+{
+    let count = front.len();
+    if count <= 16 || count > 32 {
+        return begins_with_any(text, front);
+    }
+    if text.len() < count {
+        return false;
+    }
+    if !is_long_same(&text[..count], front) {
         return false;
     }
     true
