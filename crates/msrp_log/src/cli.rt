@@ -1,7 +1,7 @@
 //! The words of the command line.
 
 use crate::answers::Refused;
-use clap::{ArgMatches, Command};
+use clap::{Arg, ArgMatches, Command};
 use msrp_cli::{STANDARD, fault_of_words, path, value_of, valued, with_arg};
 use msrp_events::Tolerances;
 use std::alloc::{AllocError, Global};
@@ -43,53 +43,42 @@ const USUAL_BACKLOG: u32 = 4_096;
 // The most of them that may be asked for.
 const MOST_BACKLOG: u32 = 1_000_000;
 
+fn time<'a>(alloc: Global, name: &'a str, help: &'a str) -> Arg<'a> {
+    valued(alloc, name, "T", help)
+}
+
+// The command with the arguments for its tolerances.
+fn with_tolerances<'a>(
+    alloc: Global,
+    made: Result<Command<'a>, AllocError>,
+) -> Result<Command<'a>, AllocError> {
+    let operation = time(
+        alloc,
+        OPERATION,
+        "how long an operation on a resource takes (default 0)",
+    );
+    let slack = time(
+        alloc,
+        SLACK,
+        "how long the kernel may take to react (default 0)",
+    );
+    let skew = time(
+        alloc,
+        SKEW,
+        "how much the clocks of two cores may differ (default 0)",
+    );
+    with_arg(with_arg(with_arg(made, operation), slack), skew)
+}
+
 fn audit_words<'a>(alloc: Global) -> Result<Command<'a>, AllocError> {
+    let backlog = "how many jobs may be released and not ended (default 4096)";
     let made = Ok(Command::new(alloc, "audit").about("judge a log: good, or its first fault"));
+    let made = with_tolerances(alloc, made);
     let made = with_arg(
         made,
-        valued(
-            alloc,
-            OPERATION,
-            "T",
-            "how long an operation on a resource takes (default 0)",
-        ),
+        time(alloc, TICK, "SYSTEM is a plan in ticks that last so long"),
     );
-    let made = with_arg(
-        made,
-        valued(
-            alloc,
-            SLACK,
-            "T",
-            "how long the kernel may take to react (default 0)",
-        ),
-    );
-    let made = with_arg(
-        made,
-        valued(
-            alloc,
-            SKEW,
-            "T",
-            "how much the clocks of two cores may differ (default 0)",
-        ),
-    );
-    let made = with_arg(
-        made,
-        valued(
-            alloc,
-            TICK,
-            "T",
-            "SYSTEM is a plan in ticks that last so long",
-        ),
-    );
-    let made = with_arg(
-        made,
-        valued(
-            alloc,
-            BACKLOG,
-            "N",
-            "how many jobs may be released and not ended (default 4096)",
-        ),
-    );
+    let made = with_arg(made, valued(alloc, BACKLOG, "N", backlog));
     let made = with_arg(
         made,
         path(alloc, SYSTEM, "path of the system; - is standard input"),
@@ -157,6 +146,14 @@ fn backlog_at(matches: &ArgMatches<'_>) -> Result<u32, Refused> {
     }
 }
 
+// The ns of a tick, which aren't 0; the argument may be missing.
+fn tick_at(matches: &ArgMatches<'_>) -> Result<Option<u32>, Refused> {
+    match duration_at(matches, TICK)? {
+        Some(0) => Err(Refused::Usage),
+        tick => Ok(tick),
+    }
+}
+
 fn audit_of<'a>(matches: &ArgMatches<'a>) -> Result<Audit<'a>, Refused> {
     let tolerances = Tolerances {
         operation: duration_at(matches, OPERATION)?.unwrap_or(0),
@@ -164,7 +161,7 @@ fn audit_of<'a>(matches: &ArgMatches<'a>) -> Result<Audit<'a>, Refused> {
         skew: duration_at(matches, SKEW)?.unwrap_or(0),
         backlog: backlog_at(matches)?,
     };
-    let tick = duration_at(matches, TICK)?;
+    let tick = tick_at(matches)?;
     match (value_of(matches, SYSTEM), value_of(matches, LOG)) {
         (Some(system), Some(log)) if system != STANDARD || log != STANDARD => Ok(Audit {
             tolerances,
