@@ -83,6 +83,7 @@ class Page:
         self.plan, self.groups = plan, []
         numbered = [(number, line) for number, line in enumerate(trace.splitlines(), 1) if line][1:]
         rows = [line.split(",") for _, line in numbered]
+        self.numbers = [number for number, _ in numbered]
         self.rows = [(int(r[0]), int(r[1]), r[2], (plan.numbers[r[3]], int(r[4])) if r[3] != "-" else None, plan.resources.index(r[5]) if r[5] != "-" else None) for r in rows]
         legal = len(rows) if fault is None else min(len(rows), fault[0] - 1)
         self.legal, self.later = self.rows[:legal], self.rows[legal:]
