@@ -1,5 +1,4 @@
 """Debian's Chromium without a screen, asked by its DevTools protocol over a pipe."""
-import base64
 import json
 import os
 import select
@@ -108,7 +107,3 @@ class Browser:
         self.ask("Input.dispatchKeyEvent", type="keyDown", key=key, code=code, **more)
         self.ask("Input.dispatchKeyEvent", type="keyUp", key=key, code=code)
         self.rest()
-
-    def picture(self, path):
-        with open(path, "wb") as out:
-            out.write(base64.b64decode(self.ask("Page.captureScreenshot", format="png")["data"]))
