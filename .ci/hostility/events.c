@@ -47,22 +47,22 @@ static void check_text(struct msrp_events *log, bool is_end, const char *expecte
     check(!strcmp(text, expected), what);
 }
 
-/* Core 1 requests first, and its clock is ahead: the tickets decide, and not the times. */
+/* Core 1 requests first, and is late with its event: the tickets decide, and not the times. At the same time, the
+ * resource is freed first. */
 static void tickets(void)
 {
     MSRP_EVENTS(log, 2, 8, tasks, resources);
     clock_ns = 10;
     msrp_event_request(&log, 0, a, BUS, 1);
     clock_ns = 12;
-    msrp_event_acquire(&log, 0, a, BUS, 1);
-    clock_ns = 17;
     msrp_event_request(&log, 1, b, BUS, 0);
-    msrp_event_acquire(&log, 1, b, BUS, 0);
+    msrp_event_acquire(&log, 1, b, BUS);
     clock_ns = 18;
     msrp_event_freed(&log, 1, b, BUS);
+    msrp_event_acquire(&log, 0, a, BUS);
     check_text(&log, true,
-               "msrp-log,1,2\n17,1,request,b,7,bus,0,1\n10,0,request,a,0,bus,1,1\n17,1,acquire,b,7,bus,0,2\n"
-               "18,1,freed,b,7,bus,,3\n12,0,acquire,a,0,bus,1,2\n",
+               "msrp-log,1,2\n12,1,request,b,7,bus,0,1\n10,0,request,a,0,bus,1,1\n12,1,acquire,b,7,bus,,2\n"
+               "18,1,freed,b,7,bus,,3\n18,0,acquire,a,0,bus,,2\n",
                "tickets");
 }
 

@@ -171,7 +171,7 @@ static void global_section(struct core *core, struct msrp_job job, uint16_t reso
     msrp_event_request(&events, core->number, job, resource, ticket);
     while (atomic_load_explicit(&lock->serving, memory_order_acquire) != ticket)
         release_jobs(core);
-    msrp_event_acquire(&events, core->number, job, resource, ticket);
+    msrp_event_acquire(&events, core->number, job, resource);
     work(core, us, false);
     msrp_event_freed(&events, core->number, job, resource);
     atomic_store_explicit(&lock->serving, ticket + 1, memory_order_release);
