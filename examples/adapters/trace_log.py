@@ -202,8 +202,9 @@ HOOKS = {"TASK_SWITCHED_IN": "switch", "MOVED_TASK_TO_READY_STATE": "release", "
 
 def read_freertos(lines, options):
     """Rows of FreeRTOS's trace hooks. A gap in the column seq is a loss."""
-    last = {}
-    for row in csv.DictReader(lines, skipinitialspace=True):
+    rows, last = csv.DictReader(lines, skipinitialspace=True), {}
+    options.shows_losses = "seq" in (rows.fieldnames or ())
+    for row in rows:
         ns, cpu, seq = time_of(row["time"], options.unit), int(row["core"]), row.get("seq")
         if seq and int(seq) > last.get(cpu, int(seq) - 1) + 1:
             yield Seen(None, cpu, "lost", num=str(int(seq) - last[cpu] - 1))
@@ -212,15 +213,16 @@ def read_freertos(lines, options):
         yield Seen(ns, cpu, HOOKS.get(row["event"], row["event"]), thread, row.get("object") or "")
 
 
-# Each form's reader, and whether a loss shows in it: then the records of the log are numbered.
 FORMS = {
-    "trace-cmd": (read_linux, True),
-    "perf": (read_linux, True),
-    "lttng": (lambda lines, _: read_babeltrace(lines, of_lttng), True),
-    "zephyr": (lambda lines, _: read_babeltrace(lines, of_zephyr), True),
-    "litmus": (read_litmus, False),
-    "freertos": (read_freertos, True),
+    "trace-cmd": read_linux,
+    "perf": read_linux,
+    "lttng": lambda lines, _: read_babeltrace(lines, of_lttng),
+    "zephyr": lambda lines, _: read_babeltrace(lines, of_zephyr),
+    "litmus": read_litmus,
+    "freertos": read_freertos,
 }
+# The forms in which a loss shows: then the records of the log are numbered.
+WITH_LOSSES = ("trace-cmd", "perf", "lttng")
 
 
 # ---- the log
@@ -390,14 +392,16 @@ def main():
     options = parser.parse_args()
     signal.signal(signal.SIGPIPE, signal.SIG_DFL)  # the auditor may end at a fault
     names = options.names = Names(options.system, options.map)
-    read, shows_losses = FORMS[options.form]
+    options.shows_losses = options.form in WITH_LOSSES
     with opened(options.trace) as file:
-        seen = list(timed(read(file, options), dict(options.offset)))
+        seen = list(timed(FORMS[options.form](file, options), dict(options.offset)))
     if not seen:
         fail(f"{options.trace}: no line has the form {options.form}")
+    if not options.shows_losses:
+        print("trace_log.py: this trace can't show losses: a lost event would look like a fault", file=sys.stderr)
     log = Log(names)
     records = booted([record for one in of_log(seen) for record in log.records(one)], names)
-    write(Order(records, options.skew).of(records, names.cores), names.cores, shows_losses, sys.stdout)
+    write(Order(records, options.skew).of(records, names.cores), names.cores, options.shows_losses, sys.stdout)
 
 
 if __name__ == "__main__":
