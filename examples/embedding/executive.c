@@ -7,6 +7,7 @@
  * gets the overruns and the verdict. To run a plan of your own, change the table TASKS. */
 #define _GNU_SOURCE
 #include "msrp.h"
+#include <assert.h>
 #include <inttypes.h>
 #include <pthread.h>
 #include <sched.h>
@@ -139,9 +140,10 @@ static bool await_turn(struct msrp_core *core, int64_t start, struct turn *turn)
 static void do_work(struct worker *worker, const struct msrp_row *row) {
     if (row->kind == MSRP_TAKE || row->kind == MSRP_GRANT)
         worker->held = row->resource;
-    else if (row->kind == MSRP_RELEASE)
+    else if (row->kind == MSRP_RELEASE) {
+        assert(worker->held == row->resource);
         worker->held = MSRP_NONE;
-    else if (row->kind == MSRP_RUN)
+    } else if (row->kind == MSRP_RUN)
         work_of[row->task](row->job, worker->held);
 }
 

@@ -66,8 +66,8 @@ class FaultError(Error):
     >>> try:
     ...     msrp.report(plan, b"msrp-trace,1,2,6\\n0,0,idle,-,-,-\\n")
     ... except msrp.FaultError as error:
-    ...     print(error.code, error.line)
-    A3 2
+    ...     print(error.code, error.record, error.line)
+    A3 2 2
     """
 
 
