@@ -118,42 +118,6 @@ pub fn audit_rows(plan: &Plan, rows: &[Row], extent: Extent) -> Result<(), Error
     answer(status, found, &[])
 }
 
-/// The report of a legal run, as `msrp report` prints it: late jobs, response times, spinning,
-/// blocking, and proved bounds.
-///
-/// ```
-/// use msrp::{Order, Plan, TextVersion};
-/// let plan = Plan::new("msrp,1\ncores,1\nticks,2\ntask,a,0,2,2,0\nop,run,1\n")?;
-/// let trace = msrp::simulate(&plan, Order::Ascending, TextVersion::Two)?;
-/// assert!(msrp::report(&plan, trace)?.starts_with("msrp-report,2\na,0,1,1,0,1,"));
-/// # Ok::<(), msrp::Error>(())
-/// ```
-pub fn report(plan: &Plan, trace: impl AsRef<[u8]>) -> Result<String, Error> {
-    let (plan, trace) = (plan.text().as_bytes(), trace.as_ref());
-    text_of(trace, |text, needed, found| {
-        let (text, text_len) = (text.as_mut_ptr(), text.len());
-        // SAFETY: both texts and the buffer are slices, and what the call writes is borrowed for it alone.
-        unsafe {
-            ffi::msrp_report(plan.as_ptr(), plan.len(), trace.as_ptr(), trace.len(), text, text_len, needed, found)
-        }
-    })
-}
-
-/// The preemption levels and ceilings of a plan, as `msrp check` prints them.
-///
-/// ```
-/// let plan = msrp::Plan::new("msrp,1\ncores,1\nticks,2\ntask,a,0,2,2,0\nop,run,1\n")?;
-/// assert_eq!(msrp::check(&plan)?.lines().next(), Some("level,a,1"));
-/// # Ok::<(), msrp::Error>(())
-/// ```
-pub fn check(plan: &Plan) -> Result<String, Error> {
-    let plan = plan.text().as_bytes();
-    text_of(plan, |text, needed, found| {
-        // SAFETY: the plan and the buffer are slices, and what the call writes is borrowed for it alone.
-        unsafe { ffi::msrp_check(plan.as_ptr(), plan.len(), text.as_mut_ptr(), text.len(), needed, found) }
-    })
-}
-
 /// The picture of these ticks of a trace. If the range ends with 0, the picture ends with the plan,
 /// after at most 200 ticks. If a row violates a rule, the rows up to it are drawn.
 ///

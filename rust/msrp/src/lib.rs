@@ -40,6 +40,7 @@ mod error;
 mod ffi;
 mod judging;
 mod plan;
+mod reports;
 mod row;
 mod run;
 mod texts;
@@ -47,9 +48,9 @@ mod texts;
 pub use auditor::Auditor;
 pub use error::Error;
 pub use judging::{
-    audit, audit_rows, check, report, simulate, version, view, why, why_plan, why_rows, Extent, Order, Style,
-    TextVersion,
+    audit, audit_rows, simulate, version, view, why, why_plan, why_rows, Extent, Order, Style, TextVersion,
 };
 pub use plan::Plan;
+pub use reports::{check, report, Levels, TaskReport};
 pub use row::{Job, Row, Step};
 pub use run::{Core, Run, Turn};

@@ -79,6 +79,13 @@ impl Step {
 }
 
 impl Row {
+    /// The key to sort the rows of cores by before an auditor is fed them: tick, resource and the
+    /// place of the [`Turn`](crate::Turn). At the same place, a `Spin` or `Grant` comes first.
+    pub fn rank(&self, place: Option<u32>) -> impl Ord {
+        let is_counted = !matches!(self.step, Step::Spin(..) | Step::Grant(..));
+        (self.tick, self.step.resource(), place, is_counted)
+    }
+
     pub(crate) fn numbers(&self) -> Numbers {
         let (kind, job, resource, ahead) = self.step.fields();
         Numbers {

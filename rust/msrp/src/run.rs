@@ -56,8 +56,7 @@ pub enum Turn {
         /// What the core does.
         row: Row,
         /// How many requests and releases of the resource came before this step; `None` for a row on
-        /// no global resource. Feed an auditor the rows of a tick by resource, then by place. At
-        /// the same place, a `Spin` or `Grant` comes first.
+        /// no global resource. To feed an auditor, sort the rows of a tick by [`Row::rank`].
         place: Option<u32>,
     },
     /// The core may not enter its tick yet: some core hasn't arrived in the previous one.

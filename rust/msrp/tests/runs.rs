@@ -1,6 +1,6 @@
 //! Runs on threads.
 
-use msrp::{audit, Auditor, Core, Error, Plan, Row, Run, Step, TextVersion, Turn};
+use msrp::{audit, Auditor, Core, Error, Plan, Row, Run, TextVersion, Turn};
 use std::sync::mpsc::{channel, Sender};
 use std::thread;
 
@@ -65,10 +65,7 @@ fn threads_make_a_legal_run() {
     let trace = run.trace(TextVersion::Two).expect("all cores are joined");
     assert_eq!(audit(&plan(), trace), Ok(()));
 
-    log.sort_by_key(|(row, place)| {
-        let is_counted = matches!(row.step, Step::Take(..) | Step::Queue(..) | Step::Release(..));
-        (row.tick, row.step.resource(), *place, is_counted)
-    });
+    log.sort_by_key(|(row, place)| row.rank(*place));
     let mut auditor = Auditor::new(&plan()).expect("memory suffices");
     assert_eq!(log.iter().try_for_each(|(row, _)| auditor.feed(row)), Ok(()));
     assert_eq!(auditor.end(), Ok(()));

@@ -1,6 +1,6 @@
 //! Plans and traces as texts.
 
-use msrp::{audit, check, report, simulate, view, why, why_plan, Error, Order, Plan, Style, TextVersion};
+use msrp::{audit, check, report, simulate, view, why, why_plan, Error, Levels, Order, Plan, Style, TextVersion};
 
 const HANDOVER: &str = "msrp,1\ncores,2\nticks,6\nresource,g\n\
                         task,a,0,20,8,0\nop,lock,g\nop,run,1\nop,unlock,g\n\
@@ -98,11 +98,21 @@ fn a_refused_trace_says_where() {
 #[test]
 fn only_a_legal_run_has_a_report() {
     let (plan, faulty) = (handover(), TRACE.replace("2,1,grant", "2,1,spin"));
-    let report_of = |trace| report(&plan, trace);
-    let worst_response = |report: String| report.lines().nth(2).and_then(|b| b.split(',').nth(5).map(str::to_owned));
-    assert_eq!(report_of(TRACE).map(worst_response), Ok(Some("5".to_owned())));
-    assert_eq!(report_of(&faulty), Err(Error::Fault { row: 6, rule: 5, line: Some(7) }));
-    assert_eq!(check(&plan).map(|levels| levels.lines().count()), Ok(5));
+    let tasks = report(&plan, TRACE).expect("the run is legal");
+    let b = &tasks[1];
+    assert_eq!((b.name.as_str(), b.core, b.jobs, b.finished, b.late), ("b", 1, 1, 1, 0));
+    assert_eq!((b.worst_response, b.spin, b.worst_spin, b.spin_bound), (5, 1, 1, 3));
+    assert_eq!((b.blocked, b.worst_blocked, b.blocked_bound), (0, 0, 0));
+    assert_eq!(report(&plan, &faulty), Err(Error::Fault { row: 6, rule: 5, line: Some(7) }));
+}
+
+#[test]
+fn a_plan_has_levels_and_ceilings() {
+    let levels = |levels, ceilings, tops| Ok(Levels { levels, ceilings, tops });
+    assert_eq!(check(&handover()), levels(vec![1, 1], vec![None], vec![1, 1]));
+    let local = "msrp,1\ncores,1\nticks,9\nresource,g\ntask,a,0,9,9,0\nop,run,1\n\
+                 task,b,0,4,4,0\nop,lock,g\nop,run,1\nop,unlock,g\n";
+    assert_eq!(check(&Plan::new(local).expect("the plan is accepted")), levels(vec![1, 2], vec![Some(2)], vec![2]));
 }
 
 #[test]
