@@ -368,9 +368,9 @@ function laneOf(what, numbers, core, name) {
   return { what, numbers, core, name, layers, jobs: own, height: HEIGHTS[what], top: 0, shown: true };
 }
 
-// Tasks in groups that share a lane. What examples/adapters/bodies.py makes of one task has its core and its deadline,
-// is in its place, and is called NAME_1, NAME_2 and so on; a long name is cut for it. No two of their jobs are released
-// in one tick. Others may look the same by chance, so a reader can part them.
+// Tasks in groups that share a lane. Those that stand for one task whose jobs differ have its core and its deadline,
+// are in its place, and are called NAME_1, NAME_2 and so on; a long name is cut for it. No two of their jobs are
+// released in one tick. Others may look the same by chance, so a reader can part them.
 function isOneTask(tasks) {
   const stem = (name) => name.replace(/^(.{0,13}).*_\d+$/, '$1_');
   const marks = tasks.map((task) => [stem(taskName(task)), ...facts.tasks[task].slice(1, 3)].join());
