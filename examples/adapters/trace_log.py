@@ -34,7 +34,7 @@ IDLE = re.compile(r"0|swapper.*|<idle>|idle.*", re.I)
 
 
 class Seen(NamedTuple):
-    """What a line says: an event of docs/LOG.md with the names of its thread. A lost one has no time of its own."""
+    """What a line says: an event of docs/LOG.md with the names of its thread. A lost one may have no time."""
     ns: int
     cpu: int
     event: str
@@ -128,23 +128,29 @@ def switch(ns, cpu, before, is_ready, after):
     yield Seen(ns, cpu, "switch", after)
 
 
-BABELTRACE = re.compile(r"\[(?:[\d-]+ )?(?:(\d+):(\d+):)?(\d+\.\d+)\] (?:\([^)]*\) )?(?:[\w.-]+ )?(?:\w+:)?(\w+): (.*)")
+CLOCK = r"\[(?:[\d-]+ )?(?:(\d+):(\d+):)?(\d+\.\d+)\]"
+BABELTRACE = re.compile(CLOCK + r" (?:\([^)]*\) )?(?:[\w.-]+ )?(?:\w+:)?(\w+): (.*)")
 FIELD = re.compile(r'(\w+) = (?:"([^"]*)"|\( "?([^":]*?)"? : container = \d+ \)|(-?\w+))')
 # The states of a thread that was preempted: newer kernels have one above all others.
 READY = ("0", "256", "TASK_RUNNING", "TASK_REPORT_MAX", "TASK_STATE_MAX")
-DISCARDED = re.compile(r"discarded (\d+) (?:events?|packets?).*stream ID: (\d+)")
+# A stream's name ends in its CPU.
+DISCARDED = re.compile(r".* between " + CLOCK + r'.* within stream "[^"]*?(\d*)"')
 
 
 def read_babeltrace(lines, of_event):
-    """Lines of babeltrace2."""
+    """Lines of babeltrace2. It says on standard error what was lost, and since when."""
     for line in lines:
-        if lost := DISCARDED.search(line):
-            yield Seen(None, int(lost[2]), "lost", num=lost[1])
+        if lost := DISCARDED.match(line):
+            yield Seen(clock(lost), int(lost[4] or 0), "lost")
         elif found := BABELTRACE.match(line):
             fields = {name: text or word or number for name, text, word, number in FIELD.findall(found[5])}
-            minutes = 60 * int(found[1] or 0) + int(found[2] or 0)
-            ns = time_of(found[3], "s") + minutes * 60 * UNITS["s"]
-            yield from of_event(ns, int(fields.get("cpu_id", fields.get("cpu", 0))), found[4], fields, found[5])
+            cpu = int(fields.get("cpu_id", fields.get("cpu", 0)))
+            yield from of_event(clock(found), cpu, found[4], fields, found[5])
+
+
+def clock(found):
+    minutes = 60 * int(found[1] or 0) + int(found[2] or 0)
+    return time_of(found[3], "s") + minutes * 60 * UNITS["s"]
 
 
 def of_lttng(ns, cpu, event, fields, text):
