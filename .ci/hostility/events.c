@@ -112,7 +112,8 @@ static void read_line(char *line, uint64_t *numbers, uint64_t *read)
     if (sscanf(line, "%llu,%llu,lost,,,,%llu,%llu", &ns, &core, &num, &number) == 4)
         numbers[core] += num - 1;
     else
-        check(sscanf(line, "%llu,%llu,release,a,0,,%llu,%llu", &ns, &core, &num, &number) == 4 && ns == num && ++*read, line);
+        check(sscanf(line, "%llu,%llu,release,a,0,,%llu,%llu", &ns, &core, &num, &number) == 4 && ns == num && ++*read,
+              line);
     check(number == ++numbers[core] || strstr(line, "lost"), line);
 }
 

@@ -34,7 +34,7 @@ IDLE = re.compile(r"0|swapper.*|<idle>|idle.*", re.I)
 
 
 class Seen(NamedTuple):
-    """What a line says: an event of docs/LOG.md with the names of its thread. A lost one has no time of its own."""
+    """What a line says: an event of docs/LOG.md with the names of its thread. A lost one may have no time."""
     ns: int
     cpu: int
     event: str
@@ -73,9 +73,9 @@ def opened(path):
 
 def time_of(text, unit="ns"):
     """A time in ns, such as +7us or 12.5ms, exactly."""
-    found = re.fullmatch(r"([+-]?)(\d+)(?:\.(\d+))?(ns|us|ms|s)?", text.strip())
+    found = re.fullmatch(r"([+-]?)(\d+)(?:\.(\d+))?(ns|us|ms|s)?", text.strip(), re.A)
     if not found:
-        fail(f"{text!r} isn't a time")
+        raise argparse.ArgumentTypeError(f"{text!r} isn't a time, such as 7us")
     sign, whole, part, own = found.groups()
     size = UNITS[own or unit]
     ns = int(whole) * size + int(part or 0) * size // 10 ** len(part or "")
@@ -89,7 +89,7 @@ def mark_of(text, ns, cpu, thread):
         event, name, num = found.groups(default="")
         if event == "release":
             thread, name = (name,), ""
-        yield Seen(ns, cpu, event, thread, name, num, True)
+        yield Seen(ns, cpu, event, thread if any(thread) else (), name, num, True)
 
 
 # ---- the forms
@@ -128,23 +128,29 @@ def switch(ns, cpu, before, is_ready, after):
     yield Seen(ns, cpu, "switch", after)
 
 
-BABELTRACE = re.compile(r"\[(?:[\d-]+ )?(?:(\d+):(\d+):)?(\d+\.\d+)\] (?:\([^)]*\) )?(?:[\w.-]+ )?(?:\w+:)?(\w+): (.*)")
+CLOCK = r"\[(?:[\d-]+ )?(?:(\d+):(\d+):)?(\d+\.\d+)\]"
+BABELTRACE = re.compile(CLOCK + r" (?:\([^)]*\) )?(?:[\w.-]+ )?(?:\w+:)?(\w+): (.*)")
 FIELD = re.compile(r'(\w+) = (?:"([^"]*)"|\( "?([^":]*?)"? : container = \d+ \)|(-?\w+))')
 # The states of a thread that was preempted: newer kernels have one above all others.
 READY = ("0", "256", "TASK_RUNNING", "TASK_REPORT_MAX", "TASK_STATE_MAX")
-DISCARDED = re.compile(r"discarded (\d+) (?:events?|packets?).*stream ID: (\d+)")
+# A stream's name ends in its CPU.
+DISCARDED = re.compile(r".* between " + CLOCK + r'.* within stream "[^"]*?(\d*)"')
 
 
 def read_babeltrace(lines, of_event):
-    """Lines of babeltrace2."""
+    """Lines of babeltrace2. It says on standard error what was lost, and since when."""
     for line in lines:
-        if lost := DISCARDED.search(line):
-            yield Seen(None, int(lost[2]), "lost", num=lost[1])
+        if lost := DISCARDED.match(line):
+            yield Seen(clock(lost), int(lost[4] or 0), "lost")
         elif found := BABELTRACE.match(line):
             fields = {name: text or word or number for name, text, word, number in FIELD.findall(found[5])}
-            minutes = 60 * int(found[1] or 0) + int(found[2] or 0)
-            ns = time_of(found[3], "s") + minutes * 60 * UNITS["s"]
-            yield from of_event(ns, int(fields.get("cpu_id", fields.get("cpu", 0))), found[4], fields, found[5])
+            cpu = int(fields.get("cpu_id", fields.get("cpu", 0)))
+            yield from of_event(clock(found), cpu, found[4], fields, found[5])
+
+
+def clock(found):
+    minutes = 60 * int(found[1] or 0) + int(found[2] or 0)
+    return time_of(found[3], "s") + minutes * 60 * UNITS["s"]
 
 
 def of_lttng(ns, cpu, event, fields, text):
@@ -205,7 +211,7 @@ def read_freertos(lines, options):
     rows, last = csv.DictReader(lines, skipinitialspace=True), {}
     options.shows_losses = "seq" in (rows.fieldnames or ())
     for row in rows:
-        ns, cpu, seq = time_of(row["time"], options.unit), int(row["core"]), row.get("seq")
+        ns, cpu, seq = time_of(row["time"], options.unit), int(row.get("core") or 0), row.get("seq")
         if seq and int(seq) > last.get(cpu, int(seq) - 1) + 1:
             yield Seen(None, cpu, "lost", num=str(int(seq) - last[cpu] - 1))
         last[cpu] = int(seq or 0)
@@ -234,13 +240,16 @@ class Names:
         records = records_of(system)
         if records[:1] != [["msrp-system", "1"]]:
             fail(f"{system}: a system's text begins with msrp-system,1")
-        self.cores = next((int(record[1]) for record in records if record[0] == "cores"), 0)
-        self.core = {record[1]: int(record[2]) for record in records if record[0] == "task"}
-        self.deadline = {record[1]: int(record[3]) for record in records if record[0] == "task"}
         rows = records_of(of_map) if of_map else []
-        self.threads = {row[1]: row[2] for row in rows if row[0] == "thread"}
-        self.cpus = {int(row[1]): int(row[2]) for row in rows if row[0] == "cpu"}
-        self.actions = {row[1]: row[2:4] for row in rows if row[0] == "action"}
+        try:
+            self.cores = next(int(record[1]) for record in records if record[0] == "cores")
+            self.core = {record[1]: int(record[2]) for record in records if record[0] == "task"}
+            self.deadline = {record[1]: int(record[3]) for record in records if record[0] == "task"}
+            self.threads = {row[1]: row[2] for row in rows if row[0] == "thread"}
+            self.cpus = {int(row[1]): int(row[2]) for row in rows if row[0] == "cpu"}
+            self.actions = {row[1]: (row[2], row[3]) for row in rows if row[0] == "action"}
+        except (IndexError, StopIteration, ValueError) as wrong:
+            fail(f"{system}, {of_map or 'no map'}: a record lacks something: {wrong}")
         self.name_of = {}
 
     def task(self, thread):
@@ -258,11 +267,13 @@ class Log:
         self.names, self.released, self.ended, self.running = names, Counter(), Counter(), {}
 
     def core(self, seen, task=None):
-        """The core of a CPU. What another CPU does to a task, such as a wake-up, is the core's of the task."""
+        """The core of a CPU. What another CPU does to a task, such as a wake-up, belongs to the task's core."""
         core = self.names.cpus.get(seen.cpu) if self.names.cpus else seen.cpu
-        if core is None and task and seen.event == "switch":
-            fail(f"{task} runs on CPU {seen.cpu}, which the map lacks")
-        return self.names.core.get(task) if core is None else core
+        if core in range(self.names.cores):
+            return core
+        if task and seen.event == "switch":
+            raise ValueError(f"{task} runs on CPU {seen.cpu}, which is no core; see --map")
+        return self.names.core.get(task)
 
     def records(self, seen):
         if seen.event in OF_ALL:
@@ -270,7 +281,7 @@ class Log:
         task = self.names.task(seen.thread) or (None if seen.thread else self.running.get(self.core(seen)))
         core = self.core(seen, task)
         if seen.event == "lost":
-            return [] if core is None else [Record(seen.ns, core, "lost", num=seen.num)]
+            return [Record(seen.ns, core or 0, "lost", num=seen.num)]
         if seen.event == "switch":
             return self.switched(seen, core, task)
         if task is None:
@@ -329,7 +340,9 @@ def booted(records, names):
     for record in records:
         first.setdefault(record.task, record.event)
     first.pop("", None)
-    if not records or records[0].event == "boot" or set(first.values()) != {"release"}:
+    if set(first.values()) - {"release"}:
+        return [record for record in records if record.event != "boot"]
+    if not records or records[0].event == "boot":
         return records
     return [Record(records[0].ns, core, "boot") for core in range(names.cores)] + records
 
@@ -377,7 +390,31 @@ def write(records, cores, are_numbered, out):
 
 def offset_of(text):
     cpu, _, time = text.partition(":")
-    return int(cpu) if cpu.isdigit() else fail(f"--offset {text}: not CPU:TIME, such as 1:+7us"), time_of(time)
+    if not cpu.isdigit():
+        raise argparse.ArgumentTypeError(f"{text!r} isn't CPU:TIME, such as 1:+7us")
+    return int(cpu), time_of(time)
+
+
+class Lines:
+    """The lines of a file, and the number of the last one."""
+
+    def __init__(self, file):
+        self.file, self.number = file, 0
+
+    def __iter__(self):
+        for self.number, line in enumerate(self.file, 1):
+            yield line
+
+
+def log_of(options, lines):
+    """The records of the log. Says in options whether losses show."""
+    options.shows_losses = options.form in WITH_LOSSES
+    seen = list(timed(FORMS[options.form](lines, options), dict(options.offset)))
+    if not seen:
+        raise ValueError(f"no line has the form {options.form}")
+    log = Log(options.names)
+    records = booted([record for one in of_log(seen) for record in log.records(one)], options.names)
+    return Order(records, options.skew).of(records, options.names.cores)
 
 
 def main():
@@ -391,17 +428,16 @@ def main():
     parser.add_argument("trace", nargs="?", default="-")
     options = parser.parse_args()
     signal.signal(signal.SIGPIPE, signal.SIG_DFL)  # the auditor may end at a fault
-    names = options.names = Names(options.system, options.map)
-    options.shows_losses = options.form in WITH_LOSSES
+    options.names = Names(options.system, options.map)
     with opened(options.trace) as file:
-        seen = list(timed(FORMS[options.form](file, options), dict(options.offset)))
-    if not seen:
-        fail(f"{options.trace}: no line has the form {options.form}")
+        lines = Lines(file)
+        try:
+            records = log_of(options, lines)
+        except (argparse.ArgumentTypeError, ValueError, KeyError, csv.Error) as wrong:
+            fail(f"{options.trace}:{lines.number}: {wrong}")
     if not options.shows_losses:
         print("trace_log.py: this trace can't show losses: a lost event would look like a fault", file=sys.stderr)
-    log = Log(names)
-    records = booted([record for one in of_log(seen) for record in log.records(one)], names)
-    write(Order(records, options.skew).of(records, names.cores), names.cores, options.shows_losses, sys.stdout)
+    write(records, options.names.cores, options.shows_losses, sys.stdout)
 
 
 if __name__ == "__main__":
