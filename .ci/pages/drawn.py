@@ -239,7 +239,8 @@ def pictures(browser, name, path, facts):
     words = Words(facts)
     browser.open(path)
     browser.value("byId('hide').checked = true")
-    for start, end in ((0, words.ticks), (words.ticks / 4, words.ticks / 2 + 4), (words.ticks - 5.5, words.ticks), (1.25, 5.25)):
+    last = max(5, *(life[2] for life in facts.all))  # at the right edge: a lane may be in sight by an arrow alone
+    for start, end in ((0, words.ticks), (words.ticks / 4, words.ticks / 2 + 4), (words.ticks - 5.5, words.ticks), (1.25, 5.25), (last - 5, last)):
         drawn(browser, name, words, start, end, None)
         for number, lane in enumerate(words.lanes):
             blocks = [block for look in LAYERS[lane.what] for one in lane.numbers for block in words.blocks[look, one]]
