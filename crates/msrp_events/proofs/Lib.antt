@@ -1,3 +1,9 @@
 pub mod FirstFindings
 pub mod WiderTolerances
+pub mod LegalEvents
 pub mod OneHolder
+pub mod RequestOrder
+pub mod OwnCore
+pub mod Stretches
+pub mod Names
+pub mod Preemption

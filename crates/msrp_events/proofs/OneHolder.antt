@@ -30,21 +30,21 @@ use Rattle.msrp_events.specs.declared.events.LockAction.TheVariants.{Lock, Unloc
 use Rattle.msrp_events.specs.declared.states.LiveJob.{LiveJob}
 
 -- ---- counts of a changed list
-abbrev one : Bool → ℕ
+abbrev pub one : Bool → ℕ
 one b = cond b 1 0
 
-one_le : (a b : Bool) → (a ≡ true → b ≡ true) → one a ≤ one b
+pub one_le : (a b : Bool) → (a ≡ true → b ≡ true) → one a ≤ one b
 one_le true b h = let e : one b ≡ 1 = ap one (h refl) in omega arith
 one_le false b h = omega arith
 
-count_cons : {X : Type 0} (p : X → Bool) (x : X) (xs : List X) → count_by p (x ∷ xs) ≡ one (p x) + count_by p xs
+pub count_cons : {X : Type 0} (p : X → Bool) (x : X) (xs : List X) → count_by p (x ∷ xs) ≡ one (p x) + count_by p xs
 count_cons p x xs = sum_by-cons (λ z. cond (p z) 1 0) x xs
 
-count_push : {X : Type 0} (p : X → Bool) (xs : List X) (x : X) → count_by p (xs ++ x ∷ []) ≡ count_by p xs + one (p x)
+pub count_push : {X : Type 0} (p : X → Bool) (xs : List X) (x : X) → count_by p (xs ++ x ∷ []) ≡ count_by p xs + one (p x)
 count_push p xs x = sum_by_push (λ z. cond (p z) 1 0) xs x
 
 -- an element is changed to one that passes only if it did
-count_set : {X : Type 0} (p : X → Bool) (xs : List X) (i : ℕ) (x y : X) → slice_get xs i ≡ Some x → (p y ≡ true → p x ≡ true) → count_by p (set xs i y) ≤ count_by p xs
+pub count_set : {X : Type 0} (p : X → Bool) (xs : List X) (i : ℕ) (x y : X) → slice_get xs i ≡ Some x → (p y ≡ true → p x ≡ true) → count_by p (set xs i y) ≤ count_by p xs
 count_set p [] i x y h keeps = absurd (cc)
 count_set p (z ∷ xs) zero x y h keeps =
     let same : z ≡ x = cc in
@@ -59,7 +59,7 @@ count_set p (z ∷ xs) (suc i) x y h keeps =
     omega arith
 
 -- where none passes at most the changed one does
-count_none : {X : Type 0} (p : X → Bool) (xs : List X) → list_any p xs ≡ false → count_by p xs ≡ 0
+pub count_none : {X : Type 0} (p : X → Bool) (xs : List X) → list_any p xs ≡ false → count_by p xs ≡ 0
 count_none p [] h = refl
 count_none p (x ∷ xs) h =
     let parts = or_parts (p x) (list_any p xs) h in
@@ -72,7 +72,7 @@ count_none p (x ∷ xs) h =
     none : one false ≡ 0
     none = refl
 
-one_most : (b : Bool) → one b ≤ 1
+pub one_most : (b : Bool) → one b ≤ 1
 one_most true = omega arith
 one_most false = omega arith
 
@@ -95,7 +95,7 @@ count_set_one p (z ∷ xs) (suc i) y h =
     none b h = ap one h
 
 -- an element is taken away, or changed and put last
-count_remove : {X : Type 0} (p : X → Bool) (xs : List X) (i : ℕ) → count_by p (remove xs i) ≤ count_by p xs
+pub count_remove : {X : Type 0} (p : X → Bool) (xs : List X) (i : ℕ) → count_by p (remove xs i) ≤ count_by p xs
 count_remove p [] zero = omega arith
 count_remove p [] (suc i) = omega arith
 count_remove p (x ∷ xs) zero = let a = count_cons p x xs in omega arith
@@ -198,7 +198,7 @@ started_one system jobs (Some i) before = elim ((slice_get_cases jobs i).1) [
 ]
 
 -- who has done no step holds nothing
-holds_none : (system : PlanModel) (g : ℕ) (j : LiveJob) → j.step ≡ 0 → holds system g j ≡ false
+pub holds_none : (system : PlanModel) (g : ℕ) (j : LiveJob) → j.step ≡ 0 → holds system g j ≡ false
 holds_none system g j e = ap (λ n. holds_after (take n (units system j.job)) g) e ∙ ap (λ us. holds_after us g) (take_none (units system j.job))
   where
     take_none : (us : List Op) → take 0 us ≡ []
