@@ -1,11 +1,11 @@
 //! Whether a fault is certain: records that were lost before it may explain it, which the next
-//! numbers of the cores' records show.
+//! record of each core shows.
 ghost use Rattle.std.specs.Prelude.{◌≡◌, ◌<◌, ◌+◌, ◌^◌, ◌==◌};
 ghost use Rattle.msrp_plan.specs.Common.{ℕ, List, Some, IfOk, set};
 ghost use Rattle.csv.specs.Records.{fields_of};
 ghost use Rattle.msrp_text.specs.Records.{records_left};
 ghost use Rattle.msrp_event_text.specs.LogEvents.{event_of};
-ghost use Rattle.msrp_event_text.specs.LogVerdicts.{Answers, confirmed_from, is_certain, is_loss, is_lost, is_lost_since, no_numbers, numbers_with, record_loses, told, told_by};
+ghost use Rattle.msrp_event_text.specs.LogVerdicts.{Answers, awaited_with, confirmed_from, every_boot, is_boot, is_certain, is_loss, is_lost, is_lost_since, is_told, next_of, record_loses, told, told_by};
 
 use crate::events::{event_of, refusal_of};
 use crate::verdicts::{LogError, LogVerdict};
@@ -17,41 +17,72 @@ use msrp_text::records::RecordReader;
 use std::alloc::Global;
 use std::io::Read;
 
-/// The number of each core's last record, before the first one.
-pub(crate) fn no_numbers(alloc: Global, system: &System) -> Result<Vec<Option<u64>>, Memory>
-    ensures { IfOk result (λ numbers. numbers.items ≡ no_numbers system.now) }
-{
-    let numbers = vec![in alloc; None; system.cores() as usize]?;
-    Ok(numbers)
+/// What is awaited of a core before a fault is certain.
+#[derive(Clone, Copy, Debug, PartialEq, Eq)]
+pub(crate) enum Awaited {
+    Nothing,
+    /// Its log's first record.
+    Boot,
+    /// The record after the one of this number.
+    After(u64),
 }
 
-// Stores a number for a core, if the core is one of the system.
-fn put(numbers: &mut Vec<Option<u64>>, place: usize, number: Option<u64>)
-    ensures { numbers.new.items ≡ set numbers.old.items place number }
+/// What is awaited of each core before the first record.
+pub(crate) fn every_boot(alloc: Global, system: &System) -> Result<Vec<Awaited>, Memory>
+    ensures { IfOk result (λ cores. cores.items ≡ every_boot system.now) }
 {
-    if place < numbers.len() {
-        numbers[place] = number;
+    let cores = vec![in alloc; Awaited::Boot; system.cores() as usize]?;
+    Ok(cores)
+}
+
+// Stores what is awaited of a core, if the core is one of the system.
+fn put(cores: &mut Vec<Awaited>, place: usize, awaited: Awaited)
+    ensures { cores.new.items ≡ set cores.old.items place awaited }
+{
+    if place < cores.len() {
+        cores[place] = awaited;
     }
 }
 
-/// Stores the number of an event's record.
-pub(crate) fn note(numbers: &mut Vec<Option<u64>>, event: Event)
-    ensures { numbers.new.items ≡ numbers_with numbers.old.items event }
+fn next_of(number: Option<u64>) -> Awaited
+    ensures { result ≡ next_of number }
 {
-    put(numbers, event.core.0 as usize, event.number);
+    match number {
+        Some(number) => Awaited::After(number),
+        None => Awaited::Nothing,
+    }
+}
+
+/// Stores that the record after an event's is awaited of its core.
+pub(crate) fn note(cores: &mut Vec<Awaited>, event: Event)
+    ensures { cores.new.items ≡ awaited_with cores.old.items event }
+{
+    put(cores, event.core.0 as usize, next_of(event.number));
 }
 
 /// Stores that nothing is awaited of an event's core: its record follows the one before.
-pub(crate) fn tell(numbers: &mut Vec<Option<u64>>, event: Event)
-    ensures { numbers.new.items ≡ told numbers.old.items event }
+pub(crate) fn tell(cores: &mut Vec<Awaited>, event: Event)
+    ensures { cores.new.items ≡ told cores.old.items event }
 {
-    put(numbers, event.core.0 as usize, None);
+    put(cores, event.core.0 as usize, Awaited::Nothing);
 }
 
-fn is_certain(awaited: &[Option<u64>]) -> bool
-    ensures { result ≡ is_certain awaited.now }
+fn is_told(awaited: Awaited) -> bool
+    ensures { result ≡ is_told awaited }
 {
-    awaited.iter().all(|number| number.is_none())
+    matches!(awaited, Awaited::Nothing)
+}
+
+fn is_certain(cores: &[Awaited]) -> bool
+    ensures { result ≡ is_certain cores.now }
+{
+    cores.iter().all(|awaited| is_told(*awaited))
+}
+
+fn is_boot(action: Action) -> bool
+    ensures { result ≡ is_boot action }
+{
+    matches!(action, Action::Boot)
 }
 
 fn is_loss(action: Action) -> bool
@@ -60,14 +91,15 @@ fn is_loss(action: Action) -> bool
     matches!(action, Action::Lost)
 }
 
-// Whether a record shows that others were lost between it and the last one of its core.
-fn is_lost_since(last: Option<u64>, event: Event) -> bool
-    ensures { result ≡ is_lost_since last event }
+// Whether a record shows that others of its core were lost before it.
+fn is_lost_since(awaited: Awaited, event: Event) -> bool
+    ensures { result ≡ is_lost_since awaited event }
 {
-    match (last, event.number) {
-        (Some(last), Some(number)) => is_loss(event.action) || !follows(last, number),
-        (Some(_), None) => is_loss(event.action),
-        (None, _) => false,
+    match (awaited, event.number) {
+        (Awaited::Nothing, _) => false,
+        (Awaited::Boot, _) => !is_boot(event.action),
+        (Awaited::After(last), Some(number)) => is_loss(event.action) || !follows(last, number),
+        (Awaited::After(_), None) => is_loss(event.action),
     }
 }
 
@@ -77,24 +109,24 @@ fn follows(last: u64, number: u64) -> bool
     last < number && number - last == 1
 }
 
-fn is_lost(awaited: &[Option<u64>], event: Event) -> bool
-    ensures { result ≡ is_lost awaited.now event }
+fn is_lost(cores: &[Awaited], event: Event) -> bool
+    ensures { result ≡ is_lost cores.now event }
 {
-    match awaited.get(event.core.0 as usize) {
-        Some(last) => is_lost_since(*last, event),
+    match cores.get(event.core.0 as usize) {
+        Some(awaited) => is_lost_since(*awaited, event),
         None => false,
     }
 }
 
 // Whether a record shows a loss. If it doesn't, its core has told that there was none.
 fn record_loses(
-    awaited: &mut Vec<Option<u64>>,
+    cores: &mut Vec<Awaited>,
     system: &System,
     fields: &ByteRecord,
     number: u64,
 ) -> Result<bool, LogError>
-    ensures loses { result ≡ record_loses awaited.old.items number (fields_of fields.now) (event_of system.now (fields_of fields.now)) }
-    ensures told { awaited.new.items ≡ told_by awaited.old.items (event_of system.now (fields_of fields.now)) }
+    ensures loses { result ≡ record_loses cores.old.items number (fields_of fields.now) (event_of system.now (fields_of fields.now)) }
+    ensures told { cores.new.items ≡ told_by cores.old.items (event_of system.now (fields_of fields.now)) }
 {
     match event_of(system, fields) {
         None => Err(LogError::Record {
@@ -102,8 +134,8 @@ fn record_loses(
             number,
         }),
         Some(event) => {
-            let lost = is_lost(awaited, event);
-            tell(awaited, event);
+            let lost = is_lost(cores, event);
+            tell(cores, event);
             Ok(lost)
         }
     }
@@ -111,7 +143,7 @@ fn record_loses(
 
 /// The verdict where the record of that number violates a rule, by the records after it.
 pub(crate) fn confirm<R: Read>(
-    awaited: &mut Vec<Option<u64>>,
+    cores: &mut Vec<Awaited>,
     system: &System,
     records: &mut RecordReader<R>,
     fields: &mut ByteRecord,
@@ -119,16 +151,16 @@ pub(crate) fn confirm<R: Read>(
     number: u64,
 ) -> Result<LogVerdict, LogError>
     requires { number + 1 < 2 ^ 64 }
-    ensures { (left : List (List (List ℕ))) → records_left R.remaining records.old ≡ Some left → Answers result (confirmed_from system.now rule number (number + 1) awaited.old.items left) }
+    ensures { (left : List (List (List ℕ))) → records_left R.remaining records.old ≡ Some left → Answers result (confirmed_from system.now rule number (number + 1) cores.old.items left) }
 {
     for at in number + 1..u64::MAX {
-        if is_certain(awaited) {
+        if is_certain(cores) {
             return Ok(LogVerdict::Fault { rule, number });
         }
         if !records.read(fields)? {
             return Ok(LogVerdict::Unconfirmed { rule, number });
         }
-        if record_loses(awaited, system, fields, at)? {
+        if record_loses(cores, system, fields, at)? {
             return Ok(LogVerdict::Incomplete {
                 missing: Missing::Records,
                 number: at,
