@@ -118,10 +118,9 @@ fn judge_records<R: Read>(
 }
 
 /// The verdict on the events of a text. The first record that is no event, or with which the events
-/// so far have a finding, decides; a fault is certain once the log of each core has begun, and each
-/// other core that numbers its records has shown one more, without a gap. Memory is taken
-/// for the auditor and one record alone, however
-/// long the text is.
+/// so far have a finding, decides. A fault is certain once the log of each core has begun, and each
+/// other core that numbers its records has shown one more, without a gap. Memory is taken for the
+/// auditor and one record alone, however long the text is.
 pub fn audit_log<R: Read + Drop>(
     alloc: Global,
     text: R,
@@ -137,11 +136,5 @@ pub fn audit_log<R: Read + Drop>(
     if !records.read(&mut fields)? || !is_head(system, &fields) {
         return Err(LogError::Head);
     }
-    judge_records(
-        &mut auditor,
-        &mut cores,
-        system,
-        &mut records,
-        &mut fields,
-    )
+    judge_records(&mut auditor, &mut cores, system, &mut records, &mut fields)
 }
