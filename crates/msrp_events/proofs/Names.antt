@@ -17,7 +17,7 @@ use Rattle.msrp_events.specs.declared.findings.Missing.TheVariants as missing
 use Rattle.msrp_events.specs.declared.states.LiveJob.{LiveJob}
 use Rattle.msrp_events.specs.declared.states.Tolerances.{Tolerances}
 use Rattle.msrp_events.proofs.LegalEvents.{IsOwn, legal_step, legal_switch, legal_end, changed_own, last_own, without_own, accepted, fault_parts, lacks_parts, below}
-use Rattle.msrp_events.proofs.OneHolder.{count_cons, count_push, count_none, count_set, count_remove, one, one_le, one_most}
+use Rattle.msrp_events.proofs.OneHolder.{count_cons, count_push, count_none, count_set, count_remove, count_moved, one, one_le, one_most}
 
 -- a job was released before its task's next one, and no other live job has its name
 abbrev pub IsPast : PlanModel → List ℕ → LiveJob → Type 0
@@ -56,20 +56,6 @@ same_live system s c j own names x there name =
   where
     is_named : (y : LiveJob) (j : JobId) → y.job ≡ j → named j y ≡ true
     is_named y j e = ap (λ i. same_job i j) e ∙ same_self j
-
-count_moved : {X : Type 0} (p : X → Bool) (xs : List X) (i : ℕ) (x y : X) → slice_get xs i ≡ Some x → (p y ≡ true → p x ≡ true) → count_by p (remove xs i ++ y ∷ []) ≤ count_by p xs
-count_moved p [] i x y at keeps = absurd (cc)
-count_moved p (z ∷ xs) zero x y at keeps =
-    let e : z ≡ x = cc in
-    let a = count_push p xs y in
-    let b = count_cons p z xs in
-    let le = one_le (p y) (p z) (λ h. ap p e ∙ keeps h) in
-    omega (arith, a, b, le)
-count_moved p (z ∷ xs) (suc i) x y at keeps =
-    let a = count_cons p z (remove xs i ++ y ∷ []) in
-    let b = count_cons p z xs in
-    let rest = count_moved p xs i x y at keeps in
-    omega (arith, a, b, rest)
 
 -- ---- an event
 pub All-remove : {X : Type 0} (P : X → Type 0) (xs : List X) (i : ℕ) → All P xs → All P (remove xs i)
