@@ -4,6 +4,8 @@ pub mod LegalEvents
 pub mod OneHolder
 pub mod RequestOrder
 pub mod OwnCore
+pub mod Clocks
 pub mod Stretches
+pub mod HandOvers
 pub mod Names
 pub mod Preemption

@@ -114,7 +114,7 @@ count_moved p (z ∷ xs) (suc i) x y at keeps =
     omega (arith, a, b, rest)
 
 -- ---- a job that does its next step
-units_more : (us : List Op) (n : ℕ) (u : Op) → slice_get us n ≡ Some u → take (n + 1) us ≡ take n us ++ u ∷ []
+pub units_more : (us : List Op) (n : ℕ) (u : Op) → slice_get us n ≡ Some u → take (n + 1) us ≡ take n us ++ u ∷ []
 units_more us n u h = take_more us n u (slice_get_within us n u h) ∙ ap (λ x. take n us ++ x ∷ []) (get_or_from_slice_get us n u u h)
 
 -- a unit that isn't a lock of the resource doesn't make it held

@@ -64,7 +64,7 @@ not_awaits : (system : PlanModel) (g : ℕ) (x : LiveJob) → x.waits ≡ false 
 not_awaits system g x h = ap (λ b. b && locks_next g (next_unit system x)) h
 
 -- a job's next unit locks one resource
-one_lock : (o : Option Op) (g h : ℕ) → locks_next g o ≡ true → (g == h) ≡ false → locks_next h o ≡ false
+pub one_lock : (o : Option Op) (g h : ℕ) → locks_next g o ≡ true → (g == h) ≡ false → locks_next h o ≡ false
 one_lock None g h l other = absurd (cc)
 one_lock (Some unit.Run) g h l other = absurd (cc)
 one_lock (Some (unit.Lock r)) g h l other = ap (λ n. n == h) (eqb-true r.0 g l) ∙ other

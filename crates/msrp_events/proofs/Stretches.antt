@@ -7,7 +7,7 @@ use Rattle.msrp_events.specs.Choices.{choice}
 use Rattle.msrp_events.specs.Changes.{LogState, first_state, idle_core, core_at, jobs_with, acts, core_with, cores_acted, cores_timed, since_with, clock_after, core_touched, differs, moved, state_with, state_from}
 use Rattle.msrp_events.specs.Rules.{is_past, is_overdue, is_overdue_at, any_overdue, allowance}
 use Rattle.msrp_events.specs.Findings.{finding_of, finding_from}
-use Rattle.msrp_events.specs.Laws.{is_off, StaysOff, IsOffFrom, IsObserved, IsWithin, IsInTime, IsLegalLog, state_after}
+use Rattle.msrp_events.specs.Laws.{is_off, HoldsFrom, IsObserved, IsWithin, IsInTime, IsLegalLog, state_after}
 use Rattle.msrp_events.specs.declared.events.Action.{Action}
 use Rattle.msrp_events.specs.declared.events.Action.TheVariants.{Boot, Release, Switch, Step, End, Stop, Lost}
 use Rattle.msrp_events.specs.declared.events.Event.{Event}
@@ -15,24 +15,9 @@ use Rattle.msrp_events.specs.declared.findings.LogRule.TheVariants.{E1}
 use Rattle.msrp_events.specs.declared.states.CoreLog.{CoreLog}
 use Rattle.msrp_events.specs.declared.states.LiveJob.{LiveJob}
 use Rattle.msrp_events.specs.declared.states.Tolerances.{Tolerances}
-use Rattle.msrp_events.proofs.FirstFindings.{finding-append}
-use Rattle.msrp_events.proofs.LegalEvents.{accepted, running_with, ran_before, kept_along, or_parts, fault_parts}
+use Rattle.msrp_events.proofs.LegalEvents.{accepted, fault_parts}
+use Rattle.msrp_events.proofs.Clocks.{IsClocked, clock_stays, clock_since}
 use Rattle.msrp_events.proofs.OwnCore.{of_core, same_choices, same_part, untouched}
-
--- ---- a clock
-clock_runs : (b : Bool) (clock : Option ℕ) (now : ℕ) → is_some (clock_after b clock now) ≡ b
-clock_runs true None now = refl
-clock_runs true (Some t) now = refl
-clock_runs false clock now = refl
-
-clock_stays : (clock : Option ℕ) (now : ℕ) → clock ≡ clock_after (is_some clock) clock now
-clock_stays None now = refl
-clock_stays (Some t) now = refl
-
--- the clock of each core runs exactly while it runs another job than its choice
-pub record IsClocked (system : PlanModel) (s : LogState) : Type 0 where
-  pub cores : length s.cores ≡ system.cores
-  pub clocks : (c : ℕ) → c < system.cores → is_some (core_at s.cores c).since ≡ is_off system c s
 
 -- no action sets it
 keeps_since : (a : Action) (now : ℕ) (x : CoreLog) → (acts a now x).since ≡ x.since
@@ -45,7 +30,7 @@ keeps_since Stop now x = refl
 keeps_since Lost now x = refl
 
 -- an event looks at the clock of each core
-clocked_event : (system : PlanModel) (tolerances : Tolerances) (s : LogState) (e : Event) (c : ℕ) → s.stopped ≡ false → finding_of system tolerances s e ≡ None → IsClocked system s → c < system.cores
+clocked_event : (system : PlanModel) (tolerances : Tolerances) (s : LogState) (e : Event) (c : ℕ) → s.stopped ≡ false → finding_of system tolerances s e ≡ None → IsClocked (λ t. length t.cores ≡ system.cores) (λ t. (core_at t.cores c).since) (is_off system c) s → c < system.cores
     → (core_at (moved system s e).cores c).since ≡ clock_after (is_off system c (moved system s e)) (core_at s.cores c).since e.time
 clocked_event system tolerances s e c runs h before within = by_core (c == core_touched system e) refl where
   by_core : (b : Bool) → (c == core_touched system e) ≡ b → (core_at (moved system s e).cores c).since ≡ clock_after (is_off system c (moved system s e)) (core_at s.cores c).since e.time
@@ -54,50 +39,27 @@ clocked_event system tolerances s e c runs h before within = by_core (c == core_
       let same : is_off system c (moved system s e) ≡ is_off system c s =
       ap (λ o. not (same_choice o (core_at (moved system s e).cores c).run)) (same_choices system (moved system s e).jobs s.jobs c u.jobs)
       ∙ ap (λ o. not (same_choice (choice system s.jobs c) o)) u.run in
-      u.since ∙ (clock_stays (core_at s.cores c).since e.time ∙ ap (λ b. clock_after b (core_at s.cores c).since e.time) (before.clocks c within ∙ sym same))
+      u.since ∙ (clock_stays (core_at s.cores c).since e.time ∙ ap (λ b. clock_after b (core_at s.cores c).since e.time) (before.runs ∙ sym same))
   by_core true same =
       let jobs = jobs_with e.action s.jobs in
       let acted = cores_acted e s.cores in
       let here : core_touched system e ≡ c = sym (eqb-true c (core_touched system e) same) in
-      let long : c < length acted = let k = length-set s.cores e.core.0 (core_with e (core_at s.cores e.core.0)) in let n = before.cores in omega arith in
+      let long : c < length acted = let k = length-set s.cores e.core.0 (core_with e (core_at s.cores e.core.0)) in let n = before.parts in omega arith in
       let is : core_at (moved system s e).cores c ≡ since_with system jobs c e.time (core_at acted c) =
       ap (λ t. core_at (cores_timed system jobs t e.time acted) c) here ∙ get_or-set_same acted c (since_with system jobs c e.time (core_at acted c)) idle_core long in
       subst (λ x. x.since ≡ clock_after (differs system jobs x c) (core_at s.cores c).since e.time) (sym is)
       (ap (λ o. clock_after (differs system jobs (core_at acted c) c) o e.time) (same_part (λ (x : CoreLog). x.since) s.cores e.core.0 c (core_with e (core_at s.cores e.core.0)) (keeps_since e.action e.time (record (core_at s.cores e.core.0) { time = e.time; number = e.number }))))
 
--- so it runs after the event exactly if it should
-clocked_with : (system : PlanModel) (tolerances : Tolerances) (s : LogState) (e : Event) (c : ℕ) → s.stopped ≡ false → finding_of system tolerances s e ≡ None → IsClocked system s → c < system.cores
-    → (core_at (state_with system s e).cores c).since ≡ clock_after (is_off system c (state_with system s e)) (core_at s.cores c).since e.time
-clocked_with system tolerances s e c runs h before within = subst (λ t. (core_at t.cores c).since ≡ clock_after (is_off system c t) (core_at s.cores c).since e.time) (sym (running_with system s e runs)) (clocked_event system tolerances s e c runs h before within)
-
-moved_clocked : (system : PlanModel) (tolerances : Tolerances) (s : LogState) (e : Event) → s.stopped ≡ false → finding_of system tolerances s e ≡ None → IsClocked system s → IsClocked system (moved system s e)
-moved_clocked system tolerances s e runs h before =
+sized : (system : PlanModel) (s : LogState) (e : Event) → length s.cores ≡ system.cores → length (moved system s e).cores ≡ system.cores
+sized system s e before =
     let acted = cores_acted e s.cores in
     let t = core_touched system e in
-    record {
-      cores = length-set acted t (since_with system (jobs_with e.action s.jobs) t e.time (core_at acted t)) ∙ (length-set s.cores e.core.0 (core_with e (core_at s.cores e.core.0)) ∙ before.cores);
-      clocks = λ c within. ap is_some (clocked_event system tolerances s e c runs h before within) ∙ clock_runs (is_off system c (moved system s e)) (core_at s.cores c).since e.time;
-    }
+    length-set acted t (since_with system (jobs_with e.action s.jobs) t e.time (core_at acted t)) ∙ (length-set s.cores e.core.0 (core_with e (core_at s.cores e.core.0)) ∙ before)
 
--- ---- along a log
-first_clocked : (system : PlanModel) → IsClocked system (first_state system)
-first_clocked system = record { cores = length-replicate system.cores idle_core; clocks = λ c within. let is = get_or-replicate system.cores c idle_core idle_core within in ap (λ (x : CoreLog). is_some x.since) is ∙ sym (ap (λ (x : CoreLog). differs system [] x c) is) }
-
--- while the core is off its clock stays
-off_here : (system : PlanModel) (c : ℕ) (s : LogState) (events : List Event) → StaysOff system c s events → is_off system c s ≡ true
-off_here system c s [] off = off
-off_here system c s (e ∷ events) off = off.0
-
-clock_kept : (system : PlanModel) (tolerances : Tolerances) (c t : ℕ) (s : LogState) (mid : List Event) → finding_from system tolerances s mid ≡ None → (state_from system s mid).stopped ≡ false → IsClocked system s → c < system.cores → StaysOff system c s mid
-    → (core_at s.cores c).since ≡ Some t → (core_at (state_from system s mid).cores c).since ≡ Some t
-clock_kept system tolerances c t s [] h runs clocked within off at = at
-clock_kept system tolerances c t s (e ∷ mid) h runs clocked within off at =
-    let parts = or_parts (finding_of system tolerances s e) _ h in
-    let running = ran_before system s (e ∷ mid) runs in
-    let next = subst (IsClocked system) (sym (running_with system s e running)) (moved_clocked system tolerances s e running parts.0 clocked) in
-    let since = clocked_with system tolerances s e c running parts.0 clocked within in
-    clock_kept system tolerances c t (state_with system s e) mid parts.1 runs next within off.1
-    (since ∙ (ap (λ b. clock_after b (core_at s.cores c).since e.time) (off_here system c (state_with system s e) mid off.1) ∙ ap (λ o. clock_after true o e.time) at))
+first_clocked : (system : PlanModel) (c : ℕ) → c < system.cores → IsClocked (λ t. length t.cores ≡ system.cores) (λ t. (core_at t.cores c).since) (is_off system c) (first_state system)
+first_clocked system c within =
+    let is = get_or-replicate system.cores c idle_core idle_core within in
+    record { parts = length-replicate system.cores idle_core; runs = ap (λ (x : CoreLog). is_some x.since) is ∙ sym (ap (λ (x : CoreLog). differs system [] x c) is) }
 
 -- ---- an event finds no clock run for too long
 fails_one : (a b : Bool) → (a && b) ≡ false → (a ≡ false) ⊎ (b ≡ false)
@@ -124,36 +86,16 @@ not_overdue tolerances s e c t none within booted at =
     by_test true is = absurd (let found = any_in (is_overdue_at tolerances s.cores e.core.0 e.time) (range_with_len 0 (length s.cores)) c (in_range c (length s.cores) within) is in cc)
     by_test false is = is
 
-none_from : (clock : Option ℕ) → is_some clock ≡ false → clock ≡ None
-none_from None h = refl
-none_from (Some t) h = absurd (cc)
-
 booted_within : (cores : List CoreLog) (c : ℕ) → (core_at cores c).booted ≡ true → c < length cores
 booted_within cores c h = elim (cases_lt c (length cores)) [
   | inl l ↦ l
   | inr g ↦ absurd (let past = ap (λ (x : CoreLog). x.booted) (get_or_past cores c idle_core g) in let is : true ≡ false = sym h ∙ past in cc)
 ]
 
-pub in_stretch : (system : PlanModel) (tolerances : Tolerances) (start : List Event) (d : Event) (mid : List Event) (e : Event) (c : ℕ) → IsLegalLog system tolerances (start ++ d ∷ (mid ++ e ∷ [])) → IsObserved (state_after system (start ++ d ∷ mid)) c → IsOffFrom system c start d mid
+pub in_stretch : (system : PlanModel) (tolerances : Tolerances) (start : List Event) (d : Event) (mid : List Event) (e : Event) (c : ℕ) → IsLegalLog system tolerances (start ++ d ∷ (mid ++ e ∷ [])) → c < system.cores → IsObserved (state_after system (start ++ d ∷ mid)) c → HoldsFrom system (is_off system c) start d mid
     → IsInTime tolerances (state_after system (start ++ d ∷ mid)) c d.time e
-in_stretch system tolerances start d mid e c legal observed off =
-    let s = state_after system start in
-    let after = state_from system s (d ∷ mid) in
-    let joined : state_after system (start ++ d ∷ mid) ≡ after = fold-append (state_with system) (first_state system) start (d ∷ mid) in
-    let seen = subst (λ t. IsObserved t c) joined observed in
-    let first = or_parts _ _ (sym (finding-append system tolerances (first_state system) start (d ∷ (mid ++ e ∷ []))) ∙ legal) in
-    let second = or_parts (finding_of system tolerances s d) _ first.1 in
-    let third = or_parts _ _ (sym (finding-append system tolerances (state_with system s d) mid (e ∷ [])) ∙ second.1) in
-    let last = (or_parts (finding_of system tolerances after e) None third.1).0 in
-    let running = ran_before system s (d ∷ mid) seen.runs in
-    let clocked = kept_along system tolerances (IsClocked system) (moved_clocked system tolerances) (first_state system) start first.0 (first_clocked system) in
-    let next = subst (IsClocked system) (sym (running_with system s d running)) (moved_clocked system tolerances s d running second.0 clocked) in
-    let later = kept_along system tolerances (IsClocked system) (moved_clocked system tolerances) (state_with system s d) mid third.0 next in
-    let within : c < system.cores = let l = booted_within after.cores c seen.booted in let n = later.cores in omega arith in
-    let none = none_from (core_at s.cores c).since (clocked.clocks c within ∙ off.before) in
-    let since : (core_at (state_with system s d).cores c).since ≡ Some d.time =
-    clocked_with system tolerances s d c running second.0 clocked within
-    ∙ (ap (λ b. clock_after b (core_at s.cores c).since d.time) (off_here system c (state_with system s d) mid off.after) ∙ ap (λ o. clock_after true o d.time) none) in
-    let kept = clock_kept system tolerances c d.time (state_with system s d) mid third.0 seen.runs next within off.after since in
-    let time = fault_parts (any_overdue tolerances after.cores e.core.0 e.time) E1 _ (accepted system tolerances after e seen.runs last).time in
-    subst (λ t. IsInTime tolerances t c d.time e) (sym joined) (not_overdue tolerances after e c d.time time.0 (booted_within after.cores c seen.booted) seen.booted kept)
+in_stretch system tolerances start d mid e c legal within seen off =
+    let after = state_after system (start ++ d ∷ mid) in
+    let it = clock_since system tolerances (λ t. length t.cores ≡ system.cores) (λ t. (core_at t.cores c).since) (is_off system c) (sized system) (λ s e runs h before. clocked_event system tolerances s e c runs h before within) (first_clocked system c within) start d mid e legal seen.runs off in
+    let time = fault_parts (any_overdue tolerances after.cores e.core.0 e.time) E1 _ (accepted system tolerances after e seen.runs it.2).time in
+    not_overdue tolerances after e c d.time time.0 (booted_within after.cores c seen.booted) seen.booted it.1

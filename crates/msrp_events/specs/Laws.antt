@@ -4,9 +4,10 @@ use Rattle.std.specs.List.{filter_map, list_any, Contains}
 use Rattle.msrp_plan.specs.Ceiling.{resources}
 use Rattle.msrp_plan.specs.Levels.{is_global}
 use Rattle.msrp_plan.specs.declared.ids.JobId.{JobId}
-use Rattle.msrp_plan.specs.Plan.{PlanModel}
+use Rattle.msrp_plan.specs.Plan.{PlanModel, task_at}
+use Rattle.msrp_plan.specs.Units.{holds_after}
 use Rattle.msrp_events.specs.LiveJobs.{is_on, awaits, holds}
-use Rattle.msrp_events.specs.Changes.{LogState, core_at, differs, first_state, state_with, state_from}
+use Rattle.msrp_events.specs.Changes.{LogState, core_at, differs, is_ungranted, first_state, state_with, state_from}
 use Rattle.msrp_events.specs.declared.events.Action.{Action}
 use Rattle.msrp_events.specs.declared.events.Action.TheVariants.{Step}
 use Rattle.msrp_events.specs.declared.events.LockAction.{LockAction}
@@ -61,20 +62,27 @@ jobs_by does g events = filter_map (λ e. job_by does g e.action) events
 abbrev pub waiting : PlanModel → ℕ → List LiveJob → List JobId
 waiting system g jobs = map (λ x. x.job) (filter (awaits system g) jobs)
 
--- ---- who runs
--- the core should run another job than it does
+-- ---- what holds from an event on
+-- the test holds in this state, and after each of the events
+abbrev pub Stays : PlanModel → (LogState → Bool) → LogState → List Event → Type 0
+Stays system test s [] = test s ≡ true
+Stays system test s (e ∷ events) = (test s ≡ true) × Stays system test (state_with system s e) events
+
+-- it doesn't hold after the first events, and does from the next one on
+pub record HoldsFrom (system : PlanModel) (test : LogState → Bool) (start : List Event) (d : Event) (mid : List Event) : Type 0 where
+  pub before : test (state_after system start) ≡ false
+  pub after : Stays system test (state_with system (state_after system start) d) mid
+
+-- the core should run another job than it does; the resource is free while a job awaits it
 abbrev pub is_off : PlanModel → ℕ → LogState → Bool
 is_off system c s = differs system s.jobs (core_at s.cores c) c
 
--- it is so in this state, and after each of the events
-abbrev pub StaysOff : PlanModel → ℕ → LogState → List Event → Type 0
-StaysOff system c s [] = is_off system c s ≡ true
-StaysOff system c s (e ∷ events) = (is_off system c s ≡ true) × StaysOff system c (state_with system s e) events
+abbrev pub is_due : PlanModel → ℕ → LogState → Bool
+is_due system g s = is_ungranted system s.jobs g
 
--- it is not so after the first events, and is so from the next one on
-pub record IsOffFrom (system : PlanModel) (c : ℕ) (start : List Event) (d : Event) (mid : List Event) : Type 0 where
-  pub before : is_off system c (state_after system start) ≡ false
-  pub after : StaysOff system c (state_with system (state_after system start) d) mid
+-- each task unlocks what it locks
+abbrev pub AreBalanced : PlanModel → Type 0
+AreBalanced system = (t g : ℕ) → holds_after (task_at system t).units g ≡ false
 
 -- a time is at most so long after another, if there is one
 abbrev pub IsWithin : ℕ → Option ℕ → ℕ → Type 0

@@ -1,9 +1,9 @@
 //! Laws on logs, for all systems, tolerances and events. Each function's contract is the law.
-ghost use Rattle.std.specs.Prelude.{◌≡◌, ◌++◌, ◌∷◌, ℕ, List, [], Option, Some, false};
+ghost use Rattle.std.specs.Prelude.{◌≡◌, ◌<◌, ◌≤◌, ◌+◌, ◌++◌, ◌∷◌, ℕ, length, List, [], Option, Some, false};
 ghost use Rattle.msrp_plan.specs.Plan.{PlanModel};
 ghost use Rattle.msrp_events.specs.Changes.{LogState, state_from};
 ghost use Rattle.msrp_events.specs.Findings.{finding_from};
-ghost use Rattle.msrp_events.specs.Laws.{AreWider, IsEngagedOn, IsHeldByOne, IsInTime, IsLegalFrom, IsLegalLog, IsObserved, IsOffFrom, is_acquire, is_request, jobs_by, state_after, waiting};
+ghost use Rattle.msrp_events.specs.Laws.{AreWider, AreBalanced, HoldsFrom, IsEngagedOn, IsHeldByOne, IsInTime, IsLegalFrom, IsLegalLog, IsObserved, is_acquire, is_due, is_off, is_request, jobs_by, state_after, waiting};
 ghost use Rattle.msrp_plan.specs.declared.ids.JobId.{JobId};
 ghost use Rattle.msrp_events.specs.declared.events.Action.TheVariants.{Switch};
 ghost use Rattle.msrp_events.specs.declared.events.Event.{Event as LogEvent};
@@ -39,7 +39,13 @@ pub fn first_come_first_served()
 /// job than it runs, then each later event of a legal log is within the slack after that event, or
 /// after the end of the core's last operation.
 pub fn stretches()
-    ensures { (system : PlanModel) (tolerances : Tolerated) (start : List LogEvent) (d : LogEvent) (mid : List LogEvent) (e : LogEvent) (c : ℕ) → IsLegalLog system tolerances (start ++ d ∷ (mid ++ e ∷ [])) → IsObserved (state_after system (start ++ d ∷ mid)) c → IsOffFrom system c start d mid → IsInTime tolerances (state_after system (start ++ d ∷ mid)) c d.time e }
+    ensures { (system : PlanModel) (tolerances : Tolerated) (start : List LogEvent) (d : LogEvent) (mid : List LogEvent) (e : LogEvent) (c : ℕ) → IsLegalLog system tolerances (start ++ d ∷ (mid ++ e ∷ [])) → c < system.cores → IsObserved (state_after system (start ++ d ∷ mid)) c → HoldsFrom system (is_off system c) start d mid → IsInTime tolerances (state_after system (start ++ d ∷ mid)) c d.time e }
+{}
+
+/// No lost wake-up: if from an event on a resource has been free while a job awaits it, then each
+/// later event of a legal log is within an operation and the slack after that event.
+pub fn hand_overs()
+    ensures { (system : PlanModel) (tolerances : Tolerated) (start : List LogEvent) (d : LogEvent) (mid : List LogEvent) (e : LogEvent) (g : ℕ) → AreBalanced system → IsLegalLog system tolerances (start ++ d ∷ (mid ++ e ∷ [])) → g < length system.resources → (state_after system (start ++ d ∷ mid)).stopped ≡ false → HoldsFrom system (is_due system g) start d mid → e.time ≤ d.time + (tolerances.operation + tolerances.slack + tolerances.skew) }
 {}
 
 /// Nobody preempts a job that waits for a global resource or holds one: in a legal log each switch
