@@ -36,8 +36,7 @@ fn is_overdue(operation: u64, slack: u64, now: u64, core: CoreLog) -> bool
     requires { operation + slack < 2 ^ 64 }
     ensures { result ≡ is_overdue operation slack now core }
 {
-    core.booted
-        && core.since.is_some()
+    core.since.is_some()
         && is_past(core.since, slack, now)
         && is_past(core.acted, operation + slack, now)
 }

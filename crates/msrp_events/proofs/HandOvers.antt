@@ -2,19 +2,18 @@
 -- change who holds and who awaits it.
 use Rattle.std.proofs.Common.{◌≡◌, ◌<◌, ◌≤◌, ◌+◌, ◌&&◌, ◌||◌, ◌==◌, ◌∷◌, ◌++◌, ◌∙◌}
 use Rattle.std.specs.Prelude.{remove}
-use Rattle.msrp_plan.proofs.Common.{ℕ, zero, suc, Bool, true, false, cond, not, List, [], Option, Some, None, is_some, refl, ap, sym, subst, arith, length, set, slice_get, take, take_all, nat_lt, nat_tests, list_any, list_any-append, or-false, count_by, get_or-replicate, get_or-set_same, get_or-set_other, length-set, length-replicate, eqb-true, eqb-false, PlanModel, task_at}
+use Rattle.msrp_plan.proofs.Common.{ℕ, zero, suc, Bool, true, false, not, List, [], Option, Some, None, is_some, refl, ap, sym, subst, arith, length, set, slice_get, take, take_all, nat_lt, nat_tests, list_any, or-false, count_by, get_or-replicate, get_or-set_same, get_or-set_other, length-set, length-replicate, eqb-true, eqb-false, PlanModel}
 use Rattle.std.proofs.lemmas.Bool.{or_parts}
 use Rattle.msrp_plan.proofs.Lists.AnyAll.{any_push}
 use Rattle.msrp_plan.specs.Plan.{units}
 use Rattle.msrp_plan.specs.Units.{is_lock_of, is_unlock_of, holds_after}
-use Rattle.msrp_plan.specs.declared.ids.CoreId.{CoreId}
 use Rattle.msrp_plan.specs.declared.ids.JobId.{JobId}
 use Rattle.msrp_plan.specs.declared.units.Op.{Op}
 use Rattle.msrp_plan.specs.declared.units.Op.TheVariants as unit
 use Rattle.msrp_events.specs.LiveJobs.{awaits, holds, is_awaited, is_held, next_unit, locks_next, unlocks_next, place_of}
 use Rattle.msrp_events.specs.Changes.{LogState, first_state, free_at, changed_at, last_at, without_at, as_started, as_waiting, as_stepped, released, jobs_stepped, jobs_with, free_timed, resource_touched, clock_after, is_ungranted, moved}
 use Rattle.msrp_events.specs.Rules.{is_late, any_late, is_done}
-use Rattle.msrp_events.specs.Findings.{action_finding, finding_of}
+use Rattle.msrp_events.specs.Findings.{action_finding}
 use Rattle.msrp_events.specs.Laws.{AreBalanced, HoldsFrom, IsLegalLog, is_due, state_after}
 use Rattle.msrp_events.specs.declared.events.Action.{Action}
 use Rattle.msrp_events.specs.declared.events.Action.TheVariants.{Boot, Release, Switch, Step, End, Stop, Lost}
@@ -27,7 +26,6 @@ use Rattle.msrp_events.specs.declared.states.Tolerances.{Tolerances}
 use Rattle.msrp_events.proofs.Clocks.{IsClocked, clock_stays, clock_since}
 use Rattle.msrp_events.proofs.LegalEvents.{IsOwn, IsStep, legal_step, legal_switch, legal_end, changed_own, last_own, without_own, accepted, fault_parts, left_true, right_true, not_true}
 use Rattle.msrp_events.proofs.OneHolder.{one, count_push, holds_none, units_more}
-use Rattle.msrp_events.proofs.RequestOrder.{one_lock}
 
 -- ---- tests of some element of a changed list
 any_set : {X : Type 0} (p : X → Bool) (xs : List X) (i : ℕ) (x y : X) → slice_get xs i ≡ Some x → p y ≡ p x → list_any p (set xs i y) ≡ list_any p xs

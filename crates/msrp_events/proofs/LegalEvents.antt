@@ -1,7 +1,7 @@
 -- What is known where an event shows nothing: no test of its chain holds.
 use Rattle.std.proofs.Common.{◌≡◌, ◌+◌, ◌<◌, ◌&&◌, ◌==◌, ◌∷◌, ◌++◌, ◌∙◌}
 use Rattle.std.specs.Prelude.{remove}
-use Rattle.msrp_plan.proofs.Common.{ℕ, Bool, true, false, cond, not, List, [], Option, Some, None, refl, ap, sym, subst, arith, get_or, get_or_from_slice_get, set, slice_get, length, option_or, eqb-true, nat_le, nat_lt, nat_tests, slice_get-get_or, same_is, is_job_is, same_choice_is, PlanModel, core_of, is_job, same_choice}
+use Rattle.msrp_plan.proofs.Common.{ℕ, Bool, true, false, cond, not, List, [], Option, Some, None, refl, ap, sym, arith, get_or, get_or_from_slice_get, set, slice_get, length, option_or, eqb-true, nat_le, nat_tests, slice_get-get_or, same_is, is_job_is, same_choice_is, PlanModel, core_of, is_job, same_choice}
 use Rattle.std.proofs.lemmas.List.Quantifiers.{position-Some}
 use Rattle.std.specs.Option.{option_and_then}
 use Rattle.msrp_plan.specs.Jobs.{same_job}
@@ -10,14 +10,13 @@ use Rattle.msrp_events.specs.LiveJobs.{place_of, live}
 use Rattle.msrp_events.specs.Choices.{choice}
 use Rattle.msrp_events.specs.Changes.{LogState, no_job, core_at, next_at, changed_at, last_at, without_at, moved, state_with, state_from}
 use Rattle.msrp_events.specs.Rules.{acts_late, is_next_step, has_outcome, is_done}
-use Rattle.msrp_events.specs.Findings.{fault_if, lacks_if, absent, order_finding, step_of_finding, job_finding, release_finding, choice_finding, switch_finding, step_finding, end_finding, end_of_finding, action_finding, continuity, record_finding, time_finding, finding_of, finding_from}
-use Rattle.msrp_events.specs.declared.events.Action.{Action}
+use Rattle.msrp_events.specs.Findings.{fault_if, lacks_if, absent, order_finding, step_of_finding, job_finding, switch_finding, step_finding, end_finding, end_of_finding, action_finding, continuity, record_finding, time_finding, finding_of, finding_from}
 use Rattle.msrp_events.specs.declared.events.Event.{Event}
 use Rattle.msrp_events.specs.declared.events.LockAction.{LockAction}
 use Rattle.msrp_events.specs.declared.events.LockAction.TheVariants.{Lock, Unlock, Request, Acquire, Poll, Freed}
 use Rattle.msrp_events.specs.declared.findings.Finding.{Finding}
 use Rattle.msrp_events.specs.declared.findings.LogRule.{LogRule}
-use Rattle.msrp_events.specs.declared.findings.LogRule.TheVariants.{E3, E4, E7, E8, E9, E10}
+use Rattle.msrp_events.specs.declared.findings.LogRule.TheVariants.{E3, E4, E8, E9, E10}
 use Rattle.msrp_events.specs.declared.findings.Missing.{Missing}
 use Rattle.msrp_events.specs.declared.findings.Missing.TheVariants as missing
 use Rattle.msrp_events.specs.declared.states.LiveJob.{LiveJob}

@@ -1,23 +1,22 @@
 -- In a legal log no two live jobs have one name: each release is of its task's next job.
 use Rattle.std.proofs.Common.{◌≡◌, ◌+◌, ◌<◌, ◌≤◌, ◌==◌, ◌∷◌, ◌++◌, ◌∙◌}
 use Rattle.std.specs.Prelude.{remove}
-use Rattle.msrp_plan.proofs.Common.{ℕ, zero, suc, Bool, true, false, cond, List, [], Option, Some, None, refl, ap, sym, subst, arith, inl, inr, length, get_or, set, slice_get, nat_lt, nat_le, nat_tests, count_by, list_any, All, All-push, All-contains, All-from_recursion, AllByRecursion, recursion_from_All, Contains, replicate, length-set, length-replicate, get_or-set_same, get_or-set_other, eqb-true, eqb-false, same_job, same_is, same_self, slice_get-get_or, slice_get_within, get_or_from_slice_get, any_from, cases_Bool, PlanModel}
+use Rattle.msrp_plan.proofs.Common.{ℕ, zero, suc, Bool, true, false, List, [], Some, None, refl, ap, sym, subst, arith, length, set, slice_get, nat_lt, nat_le, nat_tests, count_by, list_any, All, All-push, All-contains, All-from_recursion, AllByRecursion, recursion_from_All, Contains, length-set, length-replicate, get_or-set_same, get_or-set_other, eqb-true, eqb-false, same_job, same_is, same_self, slice_get-get_or, slice_get_within, get_or_from_slice_get, any_from, PlanModel}
 use Rattle.std.proofs.lemmas.List.Elements.{All-set, All-weaker, All-get_or}
 use Rattle.msrp_plan.specs.declared.ids.JobId.{JobId}
 use Rattle.msrp_events.specs.LiveJobs.{place_of}
-use Rattle.msrp_events.specs.Changes.{LogState, no_job, next_at, changed_at, last_at, without_at, released, as_started, as_waiting, as_stepped, jobs_stepped, jobs_with, next_with, first_state, moved}
+use Rattle.msrp_events.specs.Changes.{LogState, no_job, next_at, changed_at, last_at, without_at, released, as_started, as_waiting, as_stepped, jobs_with, next_with, first_state, moved}
 use Rattle.msrp_events.specs.Findings.{release_finding, action_finding, finding_of}
 use Rattle.msrp_events.specs.declared.events.Action.{Action}
 use Rattle.msrp_events.specs.declared.events.Action.TheVariants.{Boot, Release, Switch, Step, End, Stop, Lost}
 use Rattle.msrp_events.specs.declared.events.Event.{Event}
-use Rattle.msrp_events.specs.declared.events.LockAction.{LockAction}
 use Rattle.msrp_events.specs.declared.events.LockAction.TheVariants.{Lock, Unlock, Request, Acquire, Poll, Freed}
 use Rattle.msrp_events.specs.declared.findings.LogRule.TheVariants.{E3, E7}
 use Rattle.msrp_events.specs.declared.findings.Missing.TheVariants as missing
 use Rattle.msrp_events.specs.declared.states.LiveJob.{LiveJob}
 use Rattle.msrp_events.specs.declared.states.Tolerances.{Tolerances}
 use Rattle.msrp_events.proofs.LegalEvents.{IsOwn, legal_step, legal_switch, legal_end, changed_own, last_own, without_own, accepted, fault_parts, lacks_parts, below}
-use Rattle.msrp_events.proofs.OneHolder.{count_cons, count_push, count_none, count_set, count_remove, count_moved, one, one_le, one_most}
+use Rattle.msrp_events.proofs.OneHolder.{count_cons, count_push, count_none, count_set, count_remove, count_moved, one, one_most}
 
 -- a job was released before its task's next one, and no other live job has its name
 abbrev pub IsPast : PlanModel → List ℕ → LiveJob → Type 0

@@ -1,20 +1,19 @@
 -- An event that doesn't touch a core changes neither the core's jobs nor what runs there, so not
 -- its choice.
-use Rattle.std.proofs.Common.{◌≡◌, ◌&&◌, ◌||◌, ◌==◌, ◌∷◌, ◌++◌, ◌∙◌, if◌then◌else◌}
+use Rattle.std.proofs.Common.{◌≡◌, ◌&&◌, ◌||◌, ◌==◌, ◌∷◌, ◌++◌, ◌∙◌}
 use Rattle.std.specs.Prelude.{remove}
 use mathlib.Core.Path.{fun_ext}
-use Rattle.msrp_plan.proofs.Common.{ℕ, zero, suc, Bool, true, false, cond, not, List, [], Option, Some, None, refl, ap, sym, subst, arith, set, slice_get, filter, list_any, option_map, append-nil, filter-append, eqb-true, eqb-false, length, get_or-set_other, get_or-set_same, cases_lt, PlanModel, core_of, least, ceiling_with, inl, inr}
+use Rattle.msrp_plan.proofs.Common.{ℕ, zero, suc, Bool, true, false, cond, not, List, [], Option, Some, None, refl, ap, sym, arith, set, slice_get, filter, list_any, option_map, append-nil, filter-append, eqb-true, eqb-false, length, get_or-set_other, get_or-set_same, cases_lt, PlanModel, core_of, least, ceiling_with, inl, inr}
 use Rattle.std.proofs.lemmas.List.{set_past}
 use Rattle.msrp_plan.specs.declared.ids.CoreId.{CoreId}
 use Rattle.msrp_plan.specs.declared.ids.JobId.{JobId}
 use Rattle.msrp_events.specs.LiveJobs.{is_on, holds, place_of}
 use Rattle.msrp_events.specs.Choices.{is_before, chosen, choice}
-use Rattle.msrp_events.specs.Changes.{LogState, idle_core, core_at, changed_at, last_at, without_at, as_started, as_waiting, as_stepped, released, jobs_with, core_with, cores_acted, cores_timed, since_with, core_touched, moved}
+use Rattle.msrp_events.specs.Changes.{LogState, idle_core, core_at, changed_at, last_at, as_started, as_waiting, as_stepped, released, jobs_with, core_with, cores_acted, cores_timed, since_with, core_touched, moved}
 use Rattle.msrp_events.specs.Findings.{action_finding}
 use Rattle.msrp_events.specs.declared.events.Action.{Action}
 use Rattle.msrp_events.specs.declared.events.Action.TheVariants.{Boot, Release, Switch, Step, End, Stop, Lost}
 use Rattle.msrp_events.specs.declared.events.Event.{Event}
-use Rattle.msrp_events.specs.declared.events.LockAction.{LockAction}
 use Rattle.msrp_events.specs.declared.events.LockAction.TheVariants.{Lock, Unlock, Request, Acquire, Poll, Freed}
 use Rattle.msrp_events.specs.declared.states.CoreLog.{CoreLog}
 use Rattle.msrp_events.specs.declared.states.LiveJob.{LiveJob}
@@ -82,6 +81,7 @@ last_elsewhere system s k c j own other =
 
 -- ---- an event that touches another core
 pub record IsUntouched (system : PlanModel) (s t : LogState) (c : ℕ) : Type 0 where
+  pub booted : (core_at t.cores c).booted ≡ (core_at s.cores c).booted
   pub run : (core_at t.cores c).run ≡ (core_at s.cores c).run
   pub since : (core_at t.cores c).since ≡ (core_at s.cores c).since
   pub jobs : of_core system c t.jobs ≡ of_core system c s.jobs
@@ -113,7 +113,7 @@ module _ (system : PlanModel) (tolerances : Tolerances) (s : LogState) (time : �
       let same : timed ≡ core_at s.cores c =
       ap (λ t. core_at (cores_timed system (jobs_with a s.jobs) t time (cores_acted e s.cores)) c) here
       ∙ (same_core (cores_acted e s.cores) core.0 c (since_with system (jobs_with a s.jobs) core.0 time (core_at (cores_acted e s.cores) core.0)) other ∙ same_core s.cores core.0 c (core_with e (core_at s.cores core.0)) other) in
-      record { run = ap (λ (x : CoreLog). x.run) same; since = ap (λ (x : CoreLog). x.since) same; jobs = jobs }
+      record { booted = ap (λ (x : CoreLog). x.booted) same; run = ap (λ (x : CoreLog). x.run) same; since = ap (λ (x : CoreLog). x.since) same; jobs = jobs }
 
   untouched_action : (a : Action) → action_finding system tolerances s (event_at time core number a) a ≡ None → (c == core_touched system (event_at time core number a)) ≡ false → IsUntouched system s (moved system s (event_at time core number a)) c
   untouched_action (Release j deadline) h other =
@@ -122,6 +122,7 @@ module _ (system : PlanModel) (tolerances : Tolerances) (s : LogState) (time : �
       let timed = same_core (cores_acted e s.cores) (core_of system j) c (since_with system jobs (core_of system j) time (core_at (cores_acted e s.cores) (core_of system j))) other in
       let acted = core_with e (core_at s.cores core.0) in
       record {
+        booted = ap (λ (x : CoreLog). x.booted) timed ∙ same_part (λ (x : CoreLog). x.booted) s.cores core.0 c acted refl;
         run = ap (λ (x : CoreLog). x.run) timed ∙ same_part (λ (x : CoreLog). x.run) s.cores core.0 c acted refl;
         since = ap (λ (x : CoreLog). x.since) timed ∙ same_part (λ (x : CoreLog). x.since) s.cores core.0 c acted refl;
         jobs = dropped_push (is_on system c) s.jobs (released j deadline) (flip (core_of system j) c other);

@@ -1,7 +1,7 @@
 -- In a legal log nobody preempts a job that waits for a global resource or holds one.
 use Rattle.std.proofs.Common.{◌≡◌, ◌<◌, ◌≤◌, ◌+◌, ◌&&◌, ◌||◌, ◌==◌, ◌⊎◌, ◌∷◌, ◌++◌, ◌∙◌}
 use Rattle.std.specs.Prelude.{remove}
-use Rattle.msrp_plan.proofs.Common.{ℕ, Bool, true, false, cond, not, List, [], Option, Some, None, refl, ap, sym, subst, arith, inl, inr, max, length, set, slice_get, nat_lt, nat_tests, filter, list_any, option_map, Contains, All, All-contains, All-contains_itself, Contains-append_left, kept_by, any_in, any_from, least, least_in, least_passes, least_some, least_of_those, irrefl, core_of, level, top, is_global, resources, ceiling_with, raised_with, length-set, slice_get_within, cases_lt, replicate, length-replicate, get_or-replicate, get_or_past, some_is, no_task, get_or-set_same, eq-eqb, eqb-true, same_choice_is, same_choice, PlanModel}
+use Rattle.msrp_plan.proofs.Common.{ℕ, Bool, true, false, cond, not, List, [], Option, Some, None, refl, ap, sym, subst, arith, inl, inr, max, length, set, slice_get, nat_lt, nat_tests, list_any, option_map, Contains, All-contains, All-contains_itself, Contains-append_left, kept_by, any_in, any_from, least_in, least_passes, least_some, least_of_those, irrefl, core_of, level, top, is_global, resources, raised_with, length-set, slice_get_within, cases_lt, replicate, length-replicate, get_or-replicate, get_or_past, some_is, no_task, get_or-set_same, eq-eqb, eqb-true, same_choice_is, same_choice, PlanModel}
 use Rattle.msrp_plan.proofs.Lists.Members.{in_filter}
 use Rattle.msrp_plan.proofs.Levels.Ceilings.{top_above}
 use Rattle.msrp_plan.proofs.Jobs.Keys.{key_total, then_equal, nat_equal}
@@ -15,7 +15,7 @@ use Rattle.msrp_plan.specs.Choice.{key_cmp}
 use Rattle.msrp_plan.specs.declared.ids.CoreId.{CoreId}
 use Rattle.msrp_plan.specs.declared.ids.JobId.{JobId}
 use Rattle.msrp_events.specs.LiveJobs.{live_key, is_on, holds, place_of}
-use Rattle.msrp_events.specs.Choices.{is_before, is_among, first_of, head, running, ceiling, comes_first, chosen, choice}
+use Rattle.msrp_events.specs.Choices.{is_before, is_among, head, running, ceiling, comes_first, chosen, choice}
 use Rattle.msrp_events.specs.Changes.{LogState, core_at, idle_core, changed_at, last_at, released, as_started, as_waiting, as_stepped, jobs_with, cores_acted, core_with, core_touched, since_with, moved, first_state}
 use Rattle.msrp_events.specs.Findings.{action_finding, switch_finding, finding_of}
 use Rattle.msrp_events.specs.Laws.{is_engaged, IsEngagedOn, IsLegalLog, state_after}
@@ -175,9 +175,6 @@ not_above system s c x names there on e h at mine =
   where
     le_not : (a b : ℕ) → b ≤ a → nat_lt a b ≡ false
     le_not a b l = grind (arith, nat_tests)
-
-abbrev picked : Bool → LiveJob → Option LiveJob → Option LiveJob
-picked b h s = cond b (Some h) s
 
 -- so the core's choice is the first of its started jobs
 engaged_choice : (system : PlanModel) (s : LogState) (c : ℕ) (x : LiveJob) → AreNamed system s → Contains s.jobs x → is_on system c x ≡ true → is_engaged system x ≡ true → choice system s.jobs c ≡ option_map (λ j. j.job) (running system s.jobs c)

@@ -1,13 +1,12 @@
 -- In a legal log the jobs acquire a resource in the order in which they requested it.
 use Rattle.std.proofs.Common.{◌≡◌, ◌+◌, ◌<◌, ◌&&◌, ◌==◌, ◌∷◌, ◌++◌, ◌∙◌}
 use Rattle.std.specs.Prelude.{remove, find}
-use Rattle.msrp_plan.proofs.Common.{ℕ, zero, suc, Bool, true, false, cond, not, List, [], Option, Some, None, refl, ap, sym, subst, arith, get_or, set, slice_get, filter, map, cons_option, option_map, append-nil, append_assoc, map-append, filter-append, eqb-true, eq-eqb, same_job, PlanModel, is_job}
-use Rattle.msrp_plan.specs.Units.{is_lock_of}
+use Rattle.msrp_plan.proofs.Common.{ℕ, zero, suc, Bool, true, false, cond, not, List, [], Option, Some, None, refl, ap, sym, subst, arith, get_or, set, slice_get, filter, map, cons_option, option_map, append-nil, append_assoc, map-append, filter-append, eqb-true, same_job, PlanModel, is_job}
 use Rattle.msrp_plan.specs.declared.ids.JobId.{JobId}
 use Rattle.msrp_plan.specs.declared.units.Op.{Op}
 use Rattle.msrp_plan.specs.declared.units.Op.TheVariants as unit
 use Rattle.msrp_events.specs.LiveJobs.{awaits, next_unit, locks_next, place_of}
-use Rattle.msrp_events.specs.Changes.{LogState, no_job, changed_at, last_at, without_at, as_started, as_waiting, as_stepped, released, jobs_with, moved, state_with, state_from}
+use Rattle.msrp_events.specs.Changes.{LogState, no_job, changed_at, last_at, as_started, as_waiting, as_stepped, released, jobs_with, state_with, state_from}
 use Rattle.msrp_events.specs.Findings.{action_finding, finding_of, finding_from}
 use Rattle.msrp_events.specs.Laws.{is_request, is_acquire, job_by, jobs_by, waiting}
 use Rattle.msrp_events.specs.declared.events.Action.{Action}

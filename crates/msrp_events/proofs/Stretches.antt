@@ -1,23 +1,22 @@
 -- In a legal log a core runs its choice but for stretches within the slack: the clock of a core runs
 -- exactly while the choice isn't the running job, and no event finds it run for too long.
-use Rattle.std.proofs.Common.{◌≡◌, ◌<◌, ◌≤◌, ◌+◌, ◌&&◌, ◌==◌, ◌⊎◌, ◌∷◌, ◌++◌, ◌∙◌}
-use Rattle.msrp_plan.proofs.Common.{ℕ, Bool, true, false, cond, not, List, [], Option, Some, None, is_some, refl, ap, sym, subst, arith, inl, inr, fold-append, length, nat_lt, nat_tests, list_any, range_with_len, replicate, get_or-replicate, get_or-set_same, get_or_past, length-set, length-replicate, cases_lt, eqb-true, PlanModel, same_choice}
+use Rattle.std.proofs.Common.{◌≡◌, ◌<◌, ◌+◌, ◌&&◌, ◌==◌, ◌⊎◌, ◌∷◌, ◌++◌, ◌∙◌}
+use Rattle.msrp_plan.proofs.Common.{ℕ, Bool, true, false, not, List, [], Option, Some, None, is_some, refl, ap, sym, subst, arith, inl, inr, length, nat_tests, range_with_len, get_or-replicate, get_or-set_same, length-set, length-replicate, eqb-true, PlanModel, same_choice}
 use Rattle.msrp_plan.proofs.Lists.AnyAll.{any_in, in_range}
 use Rattle.msrp_events.specs.Choices.{choice}
-use Rattle.msrp_events.specs.Changes.{LogState, first_state, idle_core, core_at, jobs_with, acts, core_with, cores_acted, cores_timed, since_with, clock_after, core_touched, differs, moved, state_with, state_from}
-use Rattle.msrp_events.specs.Rules.{is_past, is_overdue, is_overdue_at, any_overdue, allowance}
-use Rattle.msrp_events.specs.Findings.{finding_of, finding_from}
-use Rattle.msrp_events.specs.Laws.{is_off, HoldsFrom, IsObserved, IsWithin, IsInTime, IsLegalLog, state_after}
+use Rattle.msrp_events.specs.Changes.{LogState, first_state, idle_core, core_at, jobs_with, acts, core_with, cores_acted, cores_timed, since_with, clock_after, core_touched, differs, moved}
+use Rattle.msrp_events.specs.Rules.{is_past, is_overdue_at, any_overdue, allowance}
+use Rattle.msrp_events.specs.Findings.{finding_of}
+use Rattle.msrp_events.specs.Laws.{is_off, HoldsFrom, IsWithin, IsInTime, IsLegalLog, state_after}
 use Rattle.msrp_events.specs.declared.events.Action.{Action}
 use Rattle.msrp_events.specs.declared.events.Action.TheVariants.{Boot, Release, Switch, Step, End, Stop, Lost}
 use Rattle.msrp_events.specs.declared.events.Event.{Event}
 use Rattle.msrp_events.specs.declared.findings.LogRule.TheVariants.{E1}
 use Rattle.msrp_events.specs.declared.states.CoreLog.{CoreLog}
-use Rattle.msrp_events.specs.declared.states.LiveJob.{LiveJob}
 use Rattle.msrp_events.specs.declared.states.Tolerances.{Tolerances}
 use Rattle.msrp_events.proofs.LegalEvents.{accepted, fault_parts}
 use Rattle.msrp_events.proofs.Clocks.{IsClocked, clock_stays, clock_since}
-use Rattle.msrp_events.proofs.OwnCore.{of_core, same_choices, same_part, untouched}
+use Rattle.msrp_events.proofs.OwnCore.{same_choices, same_part, untouched}
 
 -- no action sets it
 keeps_since : (a : Action) (now : ℕ) (x : CoreLog) → (acts a now x).since ≡ x.since
@@ -37,8 +36,9 @@ clocked_event system tolerances s e c runs h before within = by_core (c == core_
   by_core false other =
       let u = untouched system tolerances s e c (accepted system tolerances s e runs h).action other in
       let same : is_off system c (moved system s e) ≡ is_off system c s =
-      ap (λ o. not (same_choice o (core_at (moved system s e).cores c).run)) (same_choices system (moved system s e).jobs s.jobs c u.jobs)
-      ∙ ap (λ o. not (same_choice (choice system s.jobs c) o)) u.run in
+      ap (λ b. b && not (same_choice (choice system (moved system s e).jobs c) (core_at (moved system s e).cores c).run)) u.booted
+      ∙ (ap (λ o. (core_at s.cores c).booted && not (same_choice o (core_at (moved system s e).cores c).run)) (same_choices system (moved system s e).jobs s.jobs c u.jobs)
+      ∙ ap (λ o. (core_at s.cores c).booted && not (same_choice (choice system s.jobs c) o)) u.run) in
       u.since ∙ (clock_stays (core_at s.cores c).since e.time ∙ ap (λ b. clock_after b (core_at s.cores c).since e.time) (before.runs ∙ sym same))
   by_core true same =
       let jobs = jobs_with e.action s.jobs in
@@ -70,32 +70,25 @@ not_past : (clock : Option ℕ) (wait now : ℕ) → is_past clock wait now ≡ 
 not_past None wait now h = absurd (cc)
 not_past (Some t) wait now h = grind (arith, nat_tests)
 
-in_time : (booted : Bool) (since acted : Option ℕ) (operation slack now t : ℕ) → booted ≡ true → since ≡ Some t → (booted && (is_some since && (is_past since slack now && is_past acted (operation + slack) now))) ≡ false → IsWithin slack (Some t) now ⊎ IsWithin (operation + slack) acted now
-in_time false since acted operation slack now t b at h = absurd (cc)
-in_time true None acted operation slack now t b at h = absurd (cc)
-in_time true (Some u) acted operation slack now t b at h = elim (fails_one (is_past (Some u) slack now) (is_past acted (operation + slack) now) h) [
+in_time : (since acted : Option ℕ) (operation slack now t : ℕ) → since ≡ Some t → (is_some since && (is_past since slack now && is_past acted (operation + slack) now)) ≡ false → IsWithin slack (Some t) now ⊎ IsWithin (operation + slack) acted now
+in_time None acted operation slack now t at h = absurd (cc)
+in_time (Some u) acted operation slack now t at h = elim (fails_one (is_past (Some u) slack now) (is_past acted (operation + slack) now) h) [
   | inl p ↦ inl (subst (λ o. IsWithin slack o now) at (not_past (Some u) slack now p))
   | inr p ↦ inr (not_past acted (operation + slack) now p)
 ]
 
-not_overdue : (tolerances : Tolerances) (s : LogState) (e : Event) (c t : ℕ) → any_overdue tolerances s.cores e.core.0 e.time ≡ false → c < length s.cores → (core_at s.cores c).booted ≡ true → (core_at s.cores c).since ≡ Some t → IsInTime tolerances s c t e
-not_overdue tolerances s e c t none within booted at =
-    in_time (core_at s.cores c).booted (core_at s.cores c).since (core_at s.cores c).acted tolerances.operation (allowance tolerances (c == e.core.0)) e.time t booted at (by_test (is_overdue_at tolerances s.cores e.core.0 e.time c) refl)
+not_overdue : (tolerances : Tolerances) (s : LogState) (e : Event) (c t : ℕ) → any_overdue tolerances s.cores e.core.0 e.time ≡ false → c < length s.cores → (core_at s.cores c).since ≡ Some t → IsInTime tolerances s c t e
+not_overdue tolerances s e c t none within at =
+    in_time (core_at s.cores c).since (core_at s.cores c).acted tolerances.operation (allowance tolerances (c == e.core.0)) e.time t at (by_test (is_overdue_at tolerances s.cores e.core.0 e.time c) refl)
   where
     by_test : (b : Bool) → is_overdue_at tolerances s.cores e.core.0 e.time c ≡ b → is_overdue_at tolerances s.cores e.core.0 e.time c ≡ false
     by_test true is = absurd (let found = any_in (is_overdue_at tolerances s.cores e.core.0 e.time) (range_with_len 0 (length s.cores)) c (in_range c (length s.cores) within) is in cc)
     by_test false is = is
 
-booted_within : (cores : List CoreLog) (c : ℕ) → (core_at cores c).booted ≡ true → c < length cores
-booted_within cores c h = elim (cases_lt c (length cores)) [
-  | inl l ↦ l
-  | inr g ↦ absurd (let past = ap (λ (x : CoreLog). x.booted) (get_or_past cores c idle_core g) in let is : true ≡ false = sym h ∙ past in cc)
-]
-
-pub in_stretch : (system : PlanModel) (tolerances : Tolerances) (start : List Event) (d : Event) (mid : List Event) (e : Event) (c : ℕ) → IsLegalLog system tolerances (start ++ d ∷ (mid ++ e ∷ [])) → c < system.cores → IsObserved (state_after system (start ++ d ∷ mid)) c → HoldsFrom system (is_off system c) start d mid
+pub in_stretch : (system : PlanModel) (tolerances : Tolerances) (start : List Event) (d : Event) (mid : List Event) (e : Event) (c : ℕ) → IsLegalLog system tolerances (start ++ d ∷ (mid ++ e ∷ [])) → c < system.cores → (state_after system (start ++ d ∷ mid)).stopped ≡ false → HoldsFrom system (is_off system c) start d mid
     → IsInTime tolerances (state_after system (start ++ d ∷ mid)) c d.time e
-in_stretch system tolerances start d mid e c legal within seen off =
+in_stretch system tolerances start d mid e c legal within runs off =
     let after = state_after system (start ++ d ∷ mid) in
-    let it = clock_since system tolerances (λ t. length t.cores ≡ system.cores) (λ t. (core_at t.cores c).since) (is_off system c) (sized system) (λ s e runs h before. clocked_event system tolerances s e c runs h before within) (first_clocked system c within) start d mid e legal seen.runs off in
-    let time = fault_parts (any_overdue tolerances after.cores e.core.0 e.time) E1 _ (accepted system tolerances after e seen.runs it.2).time in
-    not_overdue tolerances after e c d.time time.0 (booted_within after.cores c seen.booted) seen.booted it.1
+    let it = clock_since system tolerances (λ t. length t.cores ≡ system.cores) (λ t. (core_at t.cores c).since) (is_off system c) (sized system) (λ s e runs h before. clocked_event system tolerances s e c runs h before within) (first_clocked system c within) start d mid e legal runs off in
+    let time = fault_parts (any_overdue tolerances after.cores e.core.0 e.time) E1 _ (accepted system tolerances after e runs it.2).time in
+    not_overdue tolerances after e c d.time time.0 (let n = it.0 in omega (arith, n, within)) it.1

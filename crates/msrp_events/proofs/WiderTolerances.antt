@@ -69,7 +69,7 @@ late_keeps narrow wide now (Some t) l h = let k = ltb-true (t + wide) now h in l
 overdue_keeps : (op op' slack slack' now : ℕ) (c : CoreLog) → op ≤ op' → slack ≤ slack' → is_overdue op' slack' now c ≡ true → is_overdue op slack now c ≡ true
 overdue_keeps op op' slack slack' now c lo ls h =
     let sum : op + slack ≤ op' + slack' = omega arith in
-    and_keeps c.booted _ _ (and_keeps (is_some c.since) _ _ (ands_keep _ _ _ _ (past_keeps c.since slack slack' now ls) (past_keeps c.acted (op + slack) (op' + slack') now sum))) h
+    and_keeps (is_some c.since) _ _ (ands_keep _ _ _ _ (past_keeps c.since slack slack' now ls) (past_keeps c.acted (op + slack) (op' + slack') now sum)) h
 
 allowed : (narrow wide : Tolerances) (own : Bool) → AreWider narrow wide → allowance narrow own ≤ allowance wide own
 allowed narrow wide true w = w.slack

@@ -127,9 +127,9 @@ abbrev pub resource_touched : Action → Option ℕ
 resource_touched (Step kind j r) = Some r.0
 resource_touched _ = None
 
--- the core should run another job than it does
+-- the core, whose log has begun, should run another job than it does
 abbrev pub differs : PlanModel → List LiveJob → CoreLog → ℕ → Bool
-differs system jobs core c = not (same_choice (choice system jobs c) core.run)
+differs system jobs core c = core.booted && not (same_choice (choice system jobs c) core.run)
 
 -- the resource is free while a job awaits it
 abbrev pub is_ungranted : PlanModel → List LiveJob → ℕ → Bool

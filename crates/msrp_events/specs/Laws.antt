@@ -95,11 +95,6 @@ IsInTime tolerances s c t e =
     IsWithin (allowance tolerances (c == e.core.0)) (Some t) e.time
     ⊎ IsWithin (tolerances.operation + allowance tolerances (c == e.core.0)) (core_at s.cores c).acted e.time
 
--- the log hasn't stopped, and that of the core has begun
-pub record IsObserved (s : LogState) (c : ℕ) : Type 0 where
-  pub runs : s.stopped ≡ false
-  pub booted : (core_at s.cores c).booted ≡ true
-
 -- the job waits for a global resource, or holds one
 abbrev pub is_engaged : PlanModel → LiveJob → Bool
 is_engaged system x = x.waits || list_any (λ g. is_global system g && holds system g x) (resources system)

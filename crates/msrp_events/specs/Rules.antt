@@ -26,7 +26,7 @@ is_reached (Some t) wait now = nat_le (t + wait) now
 
 -- E1: for longer than this the core hasn't run the right job, from its own last operation's end on
 abbrev pub is_overdue : ℕ → ℕ → ℕ → CoreLog → Bool
-is_overdue operation slack now c = c.booted && (is_some c.since && (is_past c.since slack now && is_past c.acted (operation + slack) now))
+is_overdue operation slack now c = is_some c.since && (is_past c.since slack now && is_past c.acted (operation + slack) now)
 
 -- clocks of other cores may differ
 abbrev pub allowance : Tolerances → Bool → ℕ

@@ -3,7 +3,7 @@ ghost use Rattle.std.specs.Prelude.{◌≡◌, ◌<◌, ◌≤◌, ◌+◌, ◌+
 ghost use Rattle.msrp_plan.specs.Plan.{PlanModel};
 ghost use Rattle.msrp_events.specs.Changes.{LogState, state_from};
 ghost use Rattle.msrp_events.specs.Findings.{finding_from};
-ghost use Rattle.msrp_events.specs.Laws.{AreWider, AreBalanced, HoldsFrom, IsEngagedOn, IsHeldByOne, IsInTime, IsLegalFrom, IsLegalLog, IsObserved, is_acquire, is_due, is_off, is_request, jobs_by, state_after, waiting};
+ghost use Rattle.msrp_events.specs.Laws.{AreWider, AreBalanced, HoldsFrom, IsEngagedOn, IsHeldByOne, IsInTime, IsLegalFrom, IsLegalLog, is_acquire, is_due, is_off, is_request, jobs_by, state_after, waiting};
 ghost use Rattle.msrp_plan.specs.declared.ids.JobId.{JobId};
 ghost use Rattle.msrp_events.specs.declared.events.Action.TheVariants.{Switch};
 ghost use Rattle.msrp_events.specs.declared.events.Event.{Event as LogEvent};
@@ -39,7 +39,7 @@ pub fn first_come_first_served()
 /// job than it runs, then each later event of a legal log is within the slack after that event, or
 /// after the end of the core's last operation.
 pub fn stretches()
-    ensures { (system : PlanModel) (tolerances : Tolerated) (start : List LogEvent) (d : LogEvent) (mid : List LogEvent) (e : LogEvent) (c : ℕ) → IsLegalLog system tolerances (start ++ d ∷ (mid ++ e ∷ [])) → c < system.cores → IsObserved (state_after system (start ++ d ∷ mid)) c → HoldsFrom system (is_off system c) start d mid → IsInTime tolerances (state_after system (start ++ d ∷ mid)) c d.time e }
+    ensures { (system : PlanModel) (tolerances : Tolerated) (start : List LogEvent) (d : LogEvent) (mid : List LogEvent) (e : LogEvent) (c : ℕ) → IsLegalLog system tolerances (start ++ d ∷ (mid ++ e ∷ [])) → c < system.cores → (state_after system (start ++ d ∷ mid)).stopped ≡ false → HoldsFrom system (is_off system c) start d mid → IsInTime tolerances (state_after system (start ++ d ∷ mid)) c d.time e }
 {}
 
 /// No lost wake-up: if from an event on a resource has been free while a job awaits it, then each

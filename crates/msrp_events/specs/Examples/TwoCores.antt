@@ -65,6 +65,10 @@ log = handed_over ++ acquire 26 1 far bus ∷ end 27 0 lo ∷ freed 28 1 far bus
 abbrev pub after_stop : List Event
 after_stop = log ++ switch 90 1 hi ∷ []
 
+-- far is released before the log of its core begins, and runs within the slack after that
+abbrev pub boots_late : List Event
+boots_late = boot 0 0 ∷ release 5 0 far 105 ∷ boot 20 1 ∷ switch 22 1 far ∷ []
+
 -- ---- faults
 -- after the unlock lo runs on, but the core should run hi: the next record shows it
 abbrev pub runs_on : List Event
