@@ -1,7 +1,7 @@
 -- A fault is certain only if no record was left out before it: each core's next record would show
 -- a gap, and before the first record that was left out the log is legal.
-use Rattle.std.proofs.Common.{◌≡◌, ◌+◌, ◌<◌, ◌≤◌, ◌&&◌, ◌||◌, ◌==◌, ◌⊎◌, ◌∷◌, ◌++◌, ◌∙◌, if◌then◌else◌}
-use Rattle.msrp_plan.proofs.Common.{ℕ, zero, suc, Bool, true, false, cond, not, List, [], Option, Some, None, Result, Ok, Err, refl, ap, sym, subst, arith, inl, inr, length, nat_le, set, replicate, count_by, cons_option, option_or, list_all, get_or, get_or-set_same, get_or-set_other, get_or-replicate, length-set, length-replicate, append-nil, append_assoc, eqb-true, eqb-false, eq-eqb, or_parts, PlanModel, EachAfter}
+use Rattle.std.proofs.Common.{◌≡◌, ◌+◌, ◌<◌, ◌≤◌, ◌&&◌, ◌==◌, ◌⊎◌, ◌∷◌, ◌++◌, ◌∙◌, if◌then◌else◌}
+use Rattle.msrp_plan.proofs.Common.{ℕ, zero, suc, Bool, true, false, cond, not, List, [], Option, Some, None, Result, Ok, Err, refl, ap, sym, subst, arith, inl, inr, length, nat_le, count_by, cons_option, option_or, get_or, get_or-set_same, get_or-set_other, get_or-replicate, length-set, length-replicate, append-nil, append_assoc, eqb-true, eqb-false, eq-eqb, or_parts, PlanModel, EachAfter}
 use Rattle.msrp_events.specs.Changes.{LogState, first_state, idle_core, core_at, acts, core_with, cores_acted, since_with, core_touched, jobs_with, moved, state_with, state_from}
 use Rattle.msrp_events.specs.Findings.{lacks_if, is_gap, record_finding, continuity, time_finding, action_finding, finding_of, finding_in}
 use Rattle.msrp_events.specs.declared.events.Action.{Action}
@@ -10,24 +10,23 @@ use Rattle.msrp_events.specs.declared.events.Event.{Event}
 use Rattle.msrp_events.specs.declared.findings.Finding.{Finding}
 use Rattle.msrp_events.specs.declared.findings.Finding.TheVariants as finding
 use Rattle.msrp_events.specs.declared.findings.LogRule.{LogRule}
-use Rattle.msrp_events.specs.declared.findings.Missing.{Missing}
 use Rattle.msrp_events.specs.declared.findings.Missing.TheVariants as missing
 use Rattle.msrp_events.specs.declared.states.CoreLog.{CoreLog}
 use Rattle.msrp_events.specs.declared.states.Tolerances.{Tolerances}
 use Rattle.msrp_events.proofs.FirstFindings.{finding-append}
-use Rattle.msrp_events.proofs.LegalEvents.{accepted, lacks_parts, not_false, running_with}
+use Rattle.msrp_events.proofs.LegalEvents.{accepted, lacks_parts, not_false}
 use Rattle.msrp_events.proofs.OneHolder.{one, count_push}
 use Rattle.msrp_events.proofs.OwnCore.{same_part}
 use Rattle.msrp_event_audit.proofs.Following.{shows_next, next_state}
 use Rattle.msrp_event_text.specs.LogEvents.{event_of}
-use Rattle.msrp_event_text.specs.LogVerdicts.{every_boot, next_of, awaited_with, awaited_by, is_boot, is_loss, is_lost_since, is_lost, told, told_by, is_told, is_certain, after_record, record_loses, confirmed_from, settled, record_shows, events_with, decided_or, verdict_from, verdict_of, is_head}
+use Rattle.msrp_event_text.specs.LogVerdicts.{no_numbers, next_of, numbers_with, numbers_by, is_boot, is_loss, is_lost_since, is_lost, told, told_by, is_told, is_certain, after_record, record_loses, confirmed_from, settled, record_shows, events_with, decided_or, verdict_from, verdict_of, is_head}
 use Rattle.msrp_event_text.specs.Losses.{AreSome, IsNumbered, events_of, is_from}
 use Rattle.msrp_event_text.specs.declared.confirming.Awaited.{Awaited}
 use Rattle.msrp_event_text.specs.declared.confirming.Awaited.TheVariants as awaited
 use Rattle.msrp_event_text.specs.declared.verdicts.LogVerdict.{LogVerdict}
 use Rattle.msrp_event_text.specs.declared.verdicts.LogVerdict.TheVariants.{Good, Fault, Unconfirmed, Incomplete}
 use Rattle.msrp_event_text.specs.declared.verdicts.LogError.{LogError}
-use Rattle.msrp_event_text.specs.declared.verdicts.LogError.TheVariants.{Head, Record}
+use Rattle.msrp_event_text.specs.declared.verdicts.LogError.TheVariants.{Head}
 
 -- ---- records and their events
 abbrev ok : LogVerdict → Result LogVerdict LogError
@@ -45,7 +44,7 @@ events_read system (r ∷ rs) (e ∷ es) h = ap (λ o. cons_option o (events_of 
 
 -- the verdict by the first record's event
 abbrev verdict_by : PlanModel → Tolerances → ℕ → List Event → List Awaited → List (List ℕ) → List (List (List ℕ)) → Option Event → Result LogVerdict LogError
-verdict_by system t n events cores r rs o = decided_or (record_shows system t n events r o) (settled system n (told_by cores o) rs) (verdict_from system t (n + 1) (events_with events o) (awaited_by cores o) rs)
+verdict_by system t n events cores r rs o = decided_or (record_shows system t n events r o) (settled system n (told_by cores o) rs) (verdict_from system t (n + 1) (events_with events o) (numbers_by cores o) rs)
 
 abbrev confirmed_by : PlanModel → LogRule → ℕ → ℕ → List Awaited → List (List ℕ) → List (List (List ℕ)) → Bool → Option Event → Result LogVerdict LogError
 confirmed_by system rule n at cores r rs certain o = if certain then Ok (Fault rule n) else after_record (record_loses cores at r o) (Ok (Incomplete missing.Records at)) (confirmed_from system rule n (at + 1) (told_by cores o) rs)
@@ -73,9 +72,9 @@ read_all system t n events cores (r ∷ rs) h none = by_event (event_of system r
       → ((events : List Event) (cores : List Awaited) → verdict_from system t (n + 1) events cores rs ≡ Ok Good → finding_in system t events ≡ None → (es : List Event) × Reads system rs es × (finding_in system t (events ++ es) ≡ None))
       → (es : List Event) × Reads system (r ∷ rs) es × (finding_in system t (events ++ es) ≡ None)
   by_event None is h rest = absurd (cc)
-  by_event (Some e) is h rest = by_finding (finding_in system t (events ++ e ∷ [])) refl h (rest (events ++ e ∷ []) (awaited_with cores e)) where
-    by_finding : (f : Option Finding) → finding_in system t (events ++ e ∷ []) ≡ f → decided_or (Ok f) (settled system n (told cores e) rs) (verdict_from system t (n + 1) (events ++ e ∷ []) (awaited_with cores e) rs) ≡ Ok Good
-        → (verdict_from system t (n + 1) (events ++ e ∷ []) (awaited_with cores e) rs ≡ Ok Good → finding_in system t (events ++ e ∷ []) ≡ None → (es : List Event) × Reads system rs es × (finding_in system t ((events ++ e ∷ []) ++ es) ≡ None))
+  by_event (Some e) is h rest = by_finding (finding_in system t (events ++ e ∷ [])) refl h (rest (events ++ e ∷ []) (numbers_with cores e)) where
+    by_finding : (f : Option Finding) → finding_in system t (events ++ e ∷ []) ≡ f → decided_or (Ok f) (settled system n (told cores e) rs) (verdict_from system t (n + 1) (events ++ e ∷ []) (numbers_with cores e) rs) ≡ Ok Good
+        → (verdict_from system t (n + 1) (events ++ e ∷ []) (numbers_with cores e) rs ≡ Ok Good → finding_in system t (events ++ e ∷ []) ≡ None → (es : List Event) × Reads system rs es × (finding_in system t ((events ++ e ∷ []) ++ es) ≡ None))
         → (es : List Event) × Reads system (r ∷ rs) es × (finding_in system t (events ++ es) ≡ None)
     by_finding None shows h rest = let it = rest h shows in (e ∷ it.0, (is, it.1), ap (finding_in system t) (sym (append_assoc events (e ∷ []) it.0)) ∙ it.2)
     by_finding (Some (finding.Incomplete what)) shows h rest = absurd (cc)
@@ -198,7 +197,7 @@ record Tracks (system : PlanModel) (first : ℕ → ℕ) (s : LogState) (pre : L
 abbrev Lacks : PlanModel → List Event → List Event → Type 0
 Lacks system pre M = (c : ℕ) × (c < system.cores) × (count c pre < count c M)
 
-first_tracks : (system : PlanModel) (first : ℕ → ℕ) → Tracks system first (first_state system) [] (every_boot system)
+first_tracks : (system : PlanModel) (first : ℕ → ℕ) → Tracks system first (first_state system) [] (no_numbers system)
 first_tracks system first = record {
   states = length-replicate system.cores idle_core;
   awaits = length-replicate system.cores awaited.Boot;
@@ -207,7 +206,7 @@ first_tracks system first = record {
 }
 
 tracks_next : (system : PlanModel) (first : ℕ → ℕ) (s : LogState) (pre M : List Event) (cores : List Awaited) (e : Event) → IsNumbered system first M e → record_finding (core_at s.cores e.core.0) e e.action ≡ None → Tracks system first s pre cores
-    → (count e.core.0 M ≡ count e.core.0 pre) × Tracks system first (moved system s e) (pre ++ e ∷ []) (awaited_with cores e)
+    → (count e.core.0 M ≡ count e.core.0 pre) × Tracks system first (moved system s e) (pre ++ e ∷ []) (numbers_with cores e)
 tracks_next system first s pre M cores e numbered none tracks =
     let k = e.core.0 in
     let f = first k in
@@ -221,7 +220,7 @@ tracks_next system first s pre M cores e numbered none tracks =
       record {
         states = length-set acted t (since_with system (jobs_with e.action s.jobs) t e.time (core_at acted t)) ∙ size;
         awaits = length-set cores k (next_of e.number) ∙ tracks.awaits;
-        awaited = λ c within. by_core (λ i. get_or (awaited_with cores e) i awaited.Nothing) c (k == c) refl within
+        awaited = λ c within. by_core (λ i. get_or (numbers_with cores e) i awaited.Nothing) c (k == c) refl within
             (λ same. get_or-set_same cores k (next_of e.number) awaited.Nothing (let n = tracks.awaits in let l = numbered.core in omega arith) ∙ next)
             (λ other. get_or-set_other cores k c (next_of e.number) awaited.Nothing other ∙ tracks.awaited c within);
         known = λ c within. same_part awaits_of acted t c (since_with system (jobs_with e.action s.jobs) t e.time (core_at acted t)) refl ∙ by_core (λ i. awaits_of (core_at acted i)) c (k == c) refl within
@@ -277,10 +276,10 @@ fault_record system t s e rule h = by_stop s.stopped refl h where
 abbrev Follows : PlanModel → (ℕ → ℕ) → LogState → List Event → List Awaited → Type 0
 Follows system first s pre cores = (s.stopped ≡ true) ⊎ Tracks system first s pre cores
 
-follows_next : (system : PlanModel) (t : Tolerances) (first : ℕ → ℕ) (s : LogState) (pre M : List Event) (cores : List Awaited) (e : Event) → IsNumbered system first M e → finding_of system t s e ≡ None → Follows system first s pre cores → Follows system first (state_with system s e) (pre ++ e ∷ []) (awaited_with cores e)
+follows_next : (system : PlanModel) (t : Tolerances) (first : ℕ → ℕ) (s : LogState) (pre M : List Event) (cores : List Awaited) (e : Event) → IsNumbered system first M e → finding_of system t s e ≡ None → Follows system first s pre cores → Follows system first (state_with system s e) (pre ++ e ∷ []) (numbers_with cores e)
 follows_next system t first s pre M cores e numbered none (inl stopped) = inl (ap (λ b. (cond b s (moved system s e)).stopped) stopped ∙ stopped)
 follows_next system t first s pre M cores e numbered none (inr tracks) = by_stop s.stopped refl where
-  by_stop : (b : Bool) → s.stopped ≡ b → Follows system first (cond b s (moved system s e)) (pre ++ e ∷ []) (awaited_with cores e)
+  by_stop : (b : Bool) → s.stopped ≡ b → Follows system first (cond b s (moved system s e)) (pre ++ e ∷ []) (numbers_with cores e)
   by_stop true is = inl is
   by_stop false is = inr (tracks_next system first s pre M cores e numbered (accepted system t s e is none).record_of tracks).1
 
@@ -328,24 +327,24 @@ no_fault system t first verdict number (r ∷ rs) (e ∷ es) reads some (inl lef
 no_fault system t first verdict number (r ∷ rs) (e ∷ es) reads some (inr kept) M pre each legal none s is cores follows part n h =
     let shown : verdict_by system t n pre cores r kept.0 (Some e) ≡ Ok (Fault verdict number) = sym (ap (verdict_from system t n pre cores) kept.1 ∙ ap (verdict_by system t n pre cores r kept.0) reads.0) ∙ h in
     by_finding (finding_of system t s e) refl (shows_next system t pre e s none is) shown
-    (λ quiet nothing. no_fault system t first verdict number rs es reads.1 kept.0 kept.2 (M ++ e ∷ []) (pre ++ e ∷ []) each.1 (ap (finding_in system t) (append_assoc M (e ∷ []) es) ∙ legal) quiet (state_with system s e) (next_state system pre e s is) (awaited_with cores e)
+    (λ quiet nothing. no_fault system t first verdict number rs es reads.1 kept.0 kept.2 (M ++ e ∷ []) (pre ++ e ∷ []) each.1 (ap (finding_in system t) (append_assoc M (e ∷ []) es) ∙ legal) quiet (state_with system s e) (next_state system pre e s is) (numbers_with cores e)
     (follows_next system t first s pre M cores e each.0 nothing follows) (lacks_both system pre M e part) (n + 1))
   where
     by_finding : (f : Option Finding) → finding_of system t s e ≡ f → finding_in system t (pre ++ e ∷ []) ≡ finding_of system t s e → verdict_by system t n pre cores r kept.0 (Some e) ≡ Ok (Fault verdict number)
-        → (finding_in system t (pre ++ e ∷ []) ≡ None → finding_of system t s e ≡ None → verdict_from system t (n + 1) (pre ++ e ∷ []) (awaited_with cores e) kept.0 ≡ Ok (Fault verdict number) → ⊥) → ⊥
-    by_finding None f same shown rest = rest (same ∙ f) f (sym (ap (λ o. decided_or (Ok o) (settled system n (told cores e) kept.0) (verdict_from system t (n + 1) (pre ++ e ∷ []) (awaited_with cores e) kept.0)) (same ∙ f)) ∙ shown)
+        → (finding_in system t (pre ++ e ∷ []) ≡ None → finding_of system t s e ≡ None → verdict_from system t (n + 1) (pre ++ e ∷ []) (numbers_with cores e) kept.0 ≡ Ok (Fault verdict number) → ⊥) → ⊥
+    by_finding None f same shown rest = rest (same ∙ f) f (sym (ap (λ o. decided_or (Ok o) (settled system n (told cores e) kept.0) (verdict_from system t (n + 1) (pre ++ e ∷ []) (numbers_with cores e) kept.0)) (same ∙ f)) ∙ shown)
     by_finding (Some (finding.Incomplete what)) f same shown rest =
-        let g : ok (Incomplete what n) ≡ Ok (Fault verdict number) = sym (ap (λ o. decided_or (Ok o) (settled system n (told cores e) kept.0) (verdict_from system t (n + 1) (pre ++ e ∷ []) (awaited_with cores e) kept.0)) (same ∙ f)) ∙ shown in
+        let g : ok (Incomplete what n) ≡ Ok (Fault verdict number) = sym (ap (λ o. decided_or (Ok o) (settled system n (told cores e) kept.0) (verdict_from system t (n + 1) (pre ++ e ∷ []) (numbers_with cores e) kept.0)) (same ∙ f)) ∙ shown in
         absurd (cc)
     by_finding (Some (finding.Fault rule)) f same shown rest =
         no_certain system t first s pre M e es cores n (n + 1) rule verdict number rs kept.0 reads.1 kept.2 each.0 each.1 legal (same ∙ f) f follows part
-        (sym (ap (λ o. decided_or (Ok o) (settled system n (told cores e) kept.0) (verdict_from system t (n + 1) (pre ++ e ∷ []) (awaited_with cores e) kept.0)) (same ∙ f)) ∙ shown)
+        (sym (ap (λ o. decided_or (Ok o) (settled system n (told cores e) kept.0) (verdict_from system t (n + 1) (pre ++ e ∷ []) (numbers_with cores e) kept.0)) (same ∙ f)) ∙ shown)
 
 pub no_loss : (system : PlanModel) (t : Tolerances) (first : ℕ → ℕ) (head : List (List ℕ)) (all some : List (List (List ℕ))) → verdict_of system t (head ∷ all) ≡ Ok Good → EachAfter (IsNumbered system first) [] (events_of system all) → AreSome some all
     → (rule : LogRule) (number : ℕ) → verdict_of system t (head ∷ some) ≡ Ok (Fault rule number) → ⊥
 no_loss system t first head all some good each are rule number h = by_head (is_head system head) good h where
-  by_head : (b : Bool) → (if b then verdict_from system t 2 [] (every_boot system) all else Err Head) ≡ Ok Good → (if b then verdict_from system t 2 [] (every_boot system) some else Err Head) ≡ Ok (Fault rule number) → ⊥
+  by_head : (b : Bool) → (if b then verdict_from system t 2 [] (no_numbers system) all else Err Head) ≡ Ok Good → (if b then verdict_from system t 2 [] (no_numbers system) some else Err Head) ≡ Ok (Fault rule number) → ⊥
   by_head false good h = absurd (cc)
   by_head true good h =
-      let it = read_all system t 2 [] (every_boot system) all good refl in
-      no_fault system t first rule number all it.0 it.1 some are [] [] (subst (EachAfter (IsNumbered system first) []) (events_read system all it.0 it.1) each) it.2 refl (first_state system) refl (every_boot system) (inr (first_tracks system first)) (inl refl) 2 h
+      let it = read_all system t 2 [] (no_numbers system) all good refl in
+      no_fault system t first rule number all it.0 it.1 some are [] [] (subst (EachAfter (IsNumbered system first) []) (events_read system all it.0 it.1) each) it.2 refl (first_state system) refl (no_numbers system) (inr (first_tracks system first)) (inl refl) 2 h

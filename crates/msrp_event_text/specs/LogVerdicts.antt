@@ -31,15 +31,15 @@ is_head system fields = (length fields == 3) && (has_word fields 0 (codes "msrp-
 
 -- ---- whether a fault is certain
 -- what is awaited of each core: before its first record its boot, and then the next number
-abbrev pub every_boot : PlanModel → List Awaited
-every_boot system = replicate system.cores awaited.Boot
+abbrev pub no_numbers : PlanModel → List Awaited
+no_numbers system = replicate system.cores awaited.Boot
 
 abbrev pub next_of : Option ℕ → Awaited
 next_of None = awaited.Nothing
 next_of (Some number) = awaited.After number
 
-abbrev pub awaited_with : List Awaited → Event → List Awaited
-awaited_with cores e = set cores e.core.0 (next_of e.number)
+abbrev pub numbers_with : List Awaited → Event → List Awaited
+numbers_with cores e = set cores e.core.0 (next_of e.number)
 
 abbrev pub is_boot : Action → Bool
 is_boot Boot = true
@@ -107,9 +107,9 @@ abbrev pub events_with : List Event → Option Event → List Event
 events_with events None = events
 events_with events (Some e) = events ++ e ∷ []
 
-abbrev pub awaited_by : List Awaited → Option Event → List Awaited
-awaited_by cores None = cores
-awaited_by cores (Some e) = awaited_with cores e
+abbrev pub numbers_by : List Awaited → Option Event → List Awaited
+numbers_by cores None = cores
+numbers_by cores (Some e) = numbers_with cores e
 
 -- what the first record shows decides, and where it shows nothing the rest does
 abbrev pub decided_or : Result (Option Finding) LogError → (Finding → Result LogVerdict LogError) → Result LogVerdict LogError → Result LogVerdict LogError
@@ -123,12 +123,12 @@ verdict_from system tolerances number events cores [] = Ok Good
 verdict_from system tolerances number events cores (fields ∷ records) =
     decided_or (record_shows system tolerances number events fields (event_of system fields))
     (settled system number (told_by cores (event_of system fields)) records)
-    (verdict_from system tolerances (number + 1) (events_with events (event_of system fields)) (awaited_by cores (event_of system fields)) records)
+    (verdict_from system tolerances (number + 1) (events_with events (event_of system fields)) (numbers_by cores (event_of system fields)) records)
 
 -- the verdict on all records of a log
 abbrev pub verdict_of : PlanModel → Tolerances → List (List (List ℕ)) → Result LogVerdict LogError
 verdict_of system tolerances [] = Err Head
-verdict_of system tolerances (head ∷ records) = if is_head system head then verdict_from system tolerances 2 [] (every_boot system) records else Err Head
+verdict_of system tolerances (head ∷ records) = if is_head system head then verdict_from system tolerances 2 [] (no_numbers system) records else Err Head
 
 -- ---- the answer
 abbrev pub error_at : Stopped → LogError

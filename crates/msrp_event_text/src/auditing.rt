@@ -8,9 +8,9 @@ ghost use Rattle.msrp_event_audit.specs.Auditors.{HasFed};
 ghost use Rattle.msrp_events.specs.declared.events.Event.{Event as LogEvent};
 ghost use Rattle.msrp_events.specs.declared.findings.Finding.{Finding as Found};
 ghost use Rattle.msrp_event_text.specs.LogEvents.{event_of};
-ghost use Rattle.msrp_event_text.specs.LogVerdicts.{Answers, is_head, is_number, every_boot, awaited_by, record_shows, settled, told_by, verdict_from, verdict_of};
+ghost use Rattle.msrp_event_text.specs.LogVerdicts.{Answers, is_head, is_number, no_numbers, numbers_by, record_shows, settled, told_by, verdict_from, verdict_of};
 
-use crate::confirming::{Awaited, confirm, every_boot, note, tell};
+use crate::confirming::{Awaited, confirm, no_numbers, note, tell};
 use crate::events::{event_of, refusal_of};
 use crate::verdicts::{LogError, LogVerdict};
 use csv::ByteRecord;
@@ -45,7 +45,7 @@ fn is_head(system: &System, fields: &ByteRecord) -> bool
 // What a record shows after the others, if it shows something.
 fn judge_record(
     auditor: &mut LogAuditor,
-    cores: &mut Vec<Awaited>,
+    numbers: &mut Vec<Awaited>,
     system: &System,
     fields: &ByteRecord,
     number: u64,
@@ -53,8 +53,8 @@ fn judge_record(
     requires { auditor.old.system ≡ system.now }
     ensures system { auditor.new.system ≡ auditor.old.system }
     ensures tolerances { auditor.new.tolerances ≡ auditor.old.tolerances }
-    ensures noted { result ≡ Ok None → cores.new.items ≡ awaited_by cores.old.items (event_of system.now (fields_of fields.now)) }
-    ensures told { (found : Found) → result ≡ Ok (Some found) → cores.new.items ≡ told_by cores.old.items (event_of system.now (fields_of fields.now)) }
+    ensures noted { result ≡ Ok None → numbers.new.items ≡ numbers_by numbers.old.items (event_of system.now (fields_of fields.now)) }
+    ensures told { (found : Found) → result ≡ Ok (Some found) → numbers.new.items ≡ told_by numbers.old.items (event_of system.now (fields_of fields.now)) }
     ensures shown { (events : List LogEvent) → HasFed auditor.old events → result ≡ record_shows system.now auditor.old.tolerances number events (fields_of fields.now) (event_of system.now (fields_of fields.now)) }
     ensures fed { (events : List LogEvent) (event : LogEvent) → HasFed auditor.old events → event_of system.now (fields_of fields.now) ≡ Some event → HasFed auditor.new (events ++ event ∷ []) }
 {
@@ -65,11 +65,11 @@ fn judge_record(
         }),
         Some(event) => match auditor.feed(event) {
             Ok(()) => {
-                note(cores, event);
+                note(numbers, event);
                 Ok(None)
             }
             Err(finding) => {
-                tell(cores, event);
+                tell(numbers, event);
                 Ok(Some(finding))
             }
         },
@@ -78,7 +78,7 @@ fn judge_record(
 
 // The verdict where the record of that number has a finding, by the records after it.
 fn settle<R: Read>(
-    cores: &mut Vec<Awaited>,
+    numbers: &mut Vec<Awaited>,
     system: &System,
     records: &mut RecordReader<R>,
     fields: &mut ByteRecord,
@@ -86,32 +86,32 @@ fn settle<R: Read>(
     number: u64,
 ) -> Result<LogVerdict, LogError>
     requires { number + 1 < 2 ^ 64 }
-    ensures { (left : List (List (List ℕ))) → records_left R.remaining records.old ≡ Some left → Answers result (settled system.now number cores.old.items left finding) }
+    ensures { (left : List (List (List ℕ))) → records_left R.remaining records.old ≡ Some left → Answers result (settled system.now number numbers.old.items left finding) }
 {
     match finding {
         Finding::Incomplete(missing) => Ok(LogVerdict::Incomplete { missing, number }),
-        Finding::Fault(rule) => confirm(cores, system, records, fields, rule, number),
+        Finding::Fault(rule) => confirm(numbers, system, records, fields, rule, number),
     }
 }
 
 // The verdict on the records after the first one.
 fn judge_records<R: Read>(
     auditor: &mut LogAuditor,
-    cores: &mut Vec<Awaited>,
+    numbers: &mut Vec<Awaited>,
     system: &System,
     records: &mut RecordReader<R>,
     fields: &mut ByteRecord,
 ) -> Result<LogVerdict, LogError>
     requires system { auditor.old.system ≡ system.now }
     requires start { HasFed auditor.old [] }
-    ensures { (left : List (List (List ℕ))) → records_left R.remaining records.old ≡ Some left → Answers result (verdict_from system.now auditor.old.tolerances 2 [] cores.old.items left) }
+    ensures { (left : List (List (List ℕ))) → records_left R.remaining records.old ≡ Some left → Answers result (verdict_from system.now auditor.old.tolerances 2 [] numbers.old.items left) }
 {
     for number in 2..u64::MAX {
         if !records.read(fields)? {
             return Ok(LogVerdict::Good);
         }
-        if let Some(finding) = judge_record(auditor, cores, system, fields, number)? {
-            return settle(cores, system, records, fields, finding, number);
+        if let Some(finding) = judge_record(auditor, numbers, system, fields, number)? {
+            return settle(numbers, system, records, fields, finding, number);
         }
     }
     Err(LogError::Memory)
@@ -130,11 +130,17 @@ pub fn audit_log<R: Read + Drop>(
     ensures { (bytes : List ℕ) → R.remaining text ≡ Some bytes → Answers result (verdict_of system.now tolerances (csv_records bytes)) }
 {
     let mut auditor = LogAuditor::with_room(alloc, system, tolerances)?;
-    let mut cores = every_boot(alloc, system)?;
+    let mut numbers = no_numbers(alloc, system)?;
     let mut records = RecordReader::new(alloc, text);
     let mut fields = ByteRecord::new(alloc);
     if !records.read(&mut fields)? || !is_head(system, &fields) {
         return Err(LogError::Head);
     }
-    judge_records(&mut auditor, &mut cores, system, &mut records, &mut fields)
+    judge_records(
+        &mut auditor,
+        &mut numbers,
+        system,
+        &mut records,
+        &mut fields,
+    )
 }

@@ -5,7 +5,7 @@ ghost use Rattle.msrp_plan.specs.Common.{ℕ, List, Some, IfOk, set};
 ghost use Rattle.csv.specs.Records.{fields_of};
 ghost use Rattle.msrp_text.specs.Records.{records_left};
 ghost use Rattle.msrp_event_text.specs.LogEvents.{event_of};
-ghost use Rattle.msrp_event_text.specs.LogVerdicts.{Answers, awaited_with, confirmed_from, every_boot, is_boot, is_certain, is_loss, is_lost, is_lost_since, is_told, next_of, record_loses, told, told_by};
+ghost use Rattle.msrp_event_text.specs.LogVerdicts.{Answers, confirmed_from, is_boot, is_certain, is_loss, is_lost, is_lost_since, is_told, next_of, no_numbers, numbers_with, record_loses, told, told_by};
 
 use crate::events::{event_of, refusal_of};
 use crate::verdicts::{LogError, LogVerdict};
@@ -28,19 +28,19 @@ pub(crate) enum Awaited {
 }
 
 /// What is awaited of each core before the first record.
-pub(crate) fn every_boot(alloc: Global, system: &System) -> Result<Vec<Awaited>, Memory>
-    ensures { IfOk result (λ cores. cores.items ≡ every_boot system.now) }
+pub(crate) fn no_numbers(alloc: Global, system: &System) -> Result<Vec<Awaited>, Memory>
+    ensures { IfOk result (λ numbers. numbers.items ≡ no_numbers system.now) }
 {
-    let cores = vec![in alloc; Awaited::Boot; system.cores() as usize]?;
-    Ok(cores)
+    let numbers = vec![in alloc; Awaited::Boot; system.cores() as usize]?;
+    Ok(numbers)
 }
 
 // Stores what is awaited of a core, if the core is one of the system.
-fn put(cores: &mut Vec<Awaited>, place: usize, awaited: Awaited)
-    ensures { cores.new.items ≡ set cores.old.items place awaited }
+fn put(numbers: &mut Vec<Awaited>, place: usize, awaited: Awaited)
+    ensures { numbers.new.items ≡ set numbers.old.items place awaited }
 {
-    if place < cores.len() {
-        cores[place] = awaited;
+    if place < numbers.len() {
+        numbers[place] = awaited;
     }
 }
 
@@ -54,17 +54,17 @@ fn next_of(number: Option<u64>) -> Awaited
 }
 
 /// Stores that the record after an event's is awaited of its core.
-pub(crate) fn note(cores: &mut Vec<Awaited>, event: Event)
-    ensures { cores.new.items ≡ awaited_with cores.old.items event }
+pub(crate) fn note(numbers: &mut Vec<Awaited>, event: Event)
+    ensures { numbers.new.items ≡ numbers_with numbers.old.items event }
 {
-    put(cores, event.core.0 as usize, next_of(event.number));
+    put(numbers, event.core.0 as usize, next_of(event.number));
 }
 
 /// Stores that nothing is awaited of an event's core: its record follows the one before.
-pub(crate) fn tell(cores: &mut Vec<Awaited>, event: Event)
-    ensures { cores.new.items ≡ told cores.old.items event }
+pub(crate) fn tell(numbers: &mut Vec<Awaited>, event: Event)
+    ensures { numbers.new.items ≡ told numbers.old.items event }
 {
-    put(cores, event.core.0 as usize, Awaited::Nothing);
+    put(numbers, event.core.0 as usize, Awaited::Nothing);
 }
 
 fn is_told(awaited: Awaited) -> bool
@@ -120,13 +120,13 @@ fn is_lost(cores: &[Awaited], event: Event) -> bool
 
 // Whether a record shows a loss. If it doesn't, its core has told that there was none.
 fn record_loses(
-    cores: &mut Vec<Awaited>,
+    awaited: &mut Vec<Awaited>,
     system: &System,
     fields: &ByteRecord,
     number: u64,
 ) -> Result<bool, LogError>
-    ensures loses { result ≡ record_loses cores.old.items number (fields_of fields.now) (event_of system.now (fields_of fields.now)) }
-    ensures told { cores.new.items ≡ told_by cores.old.items (event_of system.now (fields_of fields.now)) }
+    ensures loses { result ≡ record_loses awaited.old.items number (fields_of fields.now) (event_of system.now (fields_of fields.now)) }
+    ensures told { awaited.new.items ≡ told_by awaited.old.items (event_of system.now (fields_of fields.now)) }
 {
     match event_of(system, fields) {
         None => Err(LogError::Record {
@@ -134,8 +134,8 @@ fn record_loses(
             number,
         }),
         Some(event) => {
-            let lost = is_lost(cores, event);
-            tell(cores, event);
+            let lost = is_lost(awaited, event);
+            tell(awaited, event);
             Ok(lost)
         }
     }
@@ -143,7 +143,7 @@ fn record_loses(
 
 /// The verdict where the record of that number violates a rule, by the records after it.
 pub(crate) fn confirm<R: Read>(
-    cores: &mut Vec<Awaited>,
+    awaited: &mut Vec<Awaited>,
     system: &System,
     records: &mut RecordReader<R>,
     fields: &mut ByteRecord,
@@ -151,16 +151,16 @@ pub(crate) fn confirm<R: Read>(
     number: u64,
 ) -> Result<LogVerdict, LogError>
     requires { number + 1 < 2 ^ 64 }
-    ensures { (left : List (List (List ℕ))) → records_left R.remaining records.old ≡ Some left → Answers result (confirmed_from system.now rule number (number + 1) cores.old.items left) }
+    ensures { (left : List (List (List ℕ))) → records_left R.remaining records.old ≡ Some left → Answers result (confirmed_from system.now rule number (number + 1) awaited.old.items left) }
 {
     for at in number + 1..u64::MAX {
-        if is_certain(cores) {
+        if is_certain(awaited) {
             return Ok(LogVerdict::Fault { rule, number });
         }
         if !records.read(fields)? {
             return Ok(LogVerdict::Unconfirmed { rule, number });
         }
-        if record_loses(cores, system, fields, at)? {
+        if record_loses(awaited, system, fields, at)? {
             return Ok(LogVerdict::Incomplete {
                 missing: Missing::Records,
                 number: at,

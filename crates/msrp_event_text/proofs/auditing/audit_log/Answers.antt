@@ -22,7 +22,7 @@ returns g c = λ bytes known.
     let left = c.new-records.ensures.left ∙ ap (option_map csv_records) known in
     let one = one-left (csv_records bytes) _ _ _ (c.in_ok-read.ensures.next (csv_records bytes) left) c.if-not-branch.false in
     let head = sym c.is_head.ensures ∙ c.if-not-is_head.false in
-    let due = ap (λ t. verdict_from c.args.system.now t 2 [] c.in_ok-cores.cores.items one.0) c.in_ok-auditor.ensures.tolerances
-    ∙ (ap (λ ns. verdict_from c.args.system.now c.args.tolerances 2 [] ns one.0) c.in_ok-cores.ensures
+    let due = ap (λ t. verdict_from c.args.system.now t 2 [] c.in_ok-numbers.numbers.items one.0) c.in_ok-auditor.ensures.tolerances
+    ∙ (ap (λ ns. verdict_from c.args.system.now c.args.tolerances 2 [] ns one.0) c.in_ok-numbers.ensures
     ∙ (sym (head-right c.args.system.now c.args.tolerances _ one.0 head) ∙ ap (verdict_of c.args.system.now c.args.tolerances) (sym one.1))) in
     answers-same _ _ _ due (c.judge_records.ensures one.0 one.2)

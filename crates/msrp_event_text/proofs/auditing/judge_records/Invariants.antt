@@ -11,4 +11,4 @@ abbrev pub invariant-loop-number : goal.invariant-loop-number
 invariant-loop-number g l =
     (events : List Event) × HasFed l.auditor events × (l.auditor.system ≡ l.system) × (l.auditor.tolerances ≡ l.fn.auditor.tolerances)
     × ((all : List (List (List ℕ))) → records_left g.R.Read.remaining l.fn.records ≡ Some all
-    → (left : List (List (List ℕ))) × (records_left g.R.Read.remaining l.records ≡ Some left) × (verdict_from l.system l.fn.auditor.tolerances l.number events l.cores.items left ≡ verdict_from l.system l.fn.auditor.tolerances 2 [] l.fn.cores.items all))
+    → (left : List (List (List ℕ))) × (records_left g.R.Read.remaining l.records ≡ Some left) × (verdict_from l.system l.fn.auditor.tolerances l.number events l.numbers.items left ≡ verdict_from l.system l.fn.auditor.tolerances 2 [] l.fn.numbers.items all))

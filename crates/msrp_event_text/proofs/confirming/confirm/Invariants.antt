@@ -8,4 +8,4 @@ use Rattle.msrp_event_text.proofs.confirming.confirm.Given as goal
 abbrev pub invariant-loop-at : goal.invariant-loop-at
 invariant-loop-at g l =
     (all : List (List (List ℕ))) → records_left g.R.Read.remaining l.fn.records ≡ Some all
-    → (left : List (List (List ℕ))) × (records_left g.R.Read.remaining l.records ≡ Some left) × (confirmed_from l.system l.rule l.number l.at l.cores.items left ≡ confirmed_from l.system l.rule l.number (l.number + 1) l.fn.cores.items all)
+    → (left : List (List (List ℕ))) × (records_left g.R.Read.remaining l.records ≡ Some left) × (confirmed_from l.system l.rule l.number l.at l.awaited.items left ≡ confirmed_from l.system l.rule l.number (l.number + 1) l.fn.awaited.items all)
