@@ -1,11 +1,7 @@
 -- The notions in the laws on logs.
-use Rattle.std.specs.Prelude.{ℕ, List, [], ◌∷◌, Bool, true, false, ◌==◌, ◌&&◌, ◌||◌, Option, Some, None, if◌then◌else◌, count_by, filter, map, ◌+◌, ◌≡◌, ◌≤◌, ◌⊎◌}
-use Rattle.std.specs.List.{filter_map, list_any, Contains}
-use Rattle.msrp_plan.specs.Ceiling.{resources}
-use Rattle.msrp_plan.specs.Levels.{is_global}
+use Rattle.std.specs.Prelude.{◌∷◌, ◌==◌, ◌&&◌, ◌||◌, if◌then◌else◌, ◌+◌, ◌≡◌, ◌≤◌, ◌⊎◌}
+use Rattle.msrp_plan.specs.Common.{ℕ, List, [], Bool, true, false, Option, Some, None, count_by, filter, map, filter_map, list_any, Contains, resources, is_global, PlanModel, task_at, holds_after}
 use Rattle.msrp_plan.specs.declared.ids.JobId.{JobId}
-use Rattle.msrp_plan.specs.Plan.{PlanModel, task_at}
-use Rattle.msrp_plan.specs.Units.{holds_after}
 use Rattle.msrp_events.specs.LiveJobs.{is_on, awaits, holds}
 use Rattle.msrp_events.specs.Changes.{LogState, core_at, differs, is_ungranted, first_state, state_with, state_from}
 use Rattle.msrp_events.specs.declared.events.Action.{Action}

@@ -1,10 +1,6 @@
 -- The rules of a legal log, and what a log may lack. Each is a test of one event after others.
-use Rattle.std.specs.Prelude.{ℕ, List, Bool, true, false, ◌==◌, ◌&&◌, ◌||◌, not, nat_lt, nat_le, is_some, Option, Some, None, length, ◌+◌, find}
-use Rattle.std.specs.List.{list_any, range_with_len}
-use Rattle.std.specs.Option.{option_map}
-use Rattle.msrp_plan.specs.Plan.{PlanModel, units}
-use Rattle.msrp_plan.specs.Jobs.{is_job}
-use Rattle.msrp_plan.specs.Levels.{is_global}
+use Rattle.std.specs.Prelude.{◌==◌, ◌&&◌, ◌||◌, ◌+◌}
+use Rattle.msrp_plan.specs.Common.{ℕ, List, Bool, true, false, not, nat_lt, nat_le, is_some, Option, Some, None, length, find, list_any, range_with_len, option_map, PlanModel, units, is_job, is_global}
 use Rattle.msrp_plan.specs.declared.ids.JobId.{JobId}
 use Rattle.msrp_events.specs.LiveJobs.{next_unit, locks_next, unlocks_next, awaits, is_held}
 use Rattle.msrp_events.specs.Changes.{core_at}

@@ -1,7 +1,7 @@
 -- Two cores: hi and lo share cal, so lo blocks hi while it has cal; lo and far, of another core,
 -- share bus. An operation takes 1 ns, and the kernel reacts within 2 ns.
-use Rattle.std.specs.Prelude.{ℕ, List, [], ◌∷◌, ◌++◌, codes}
-use Rattle.msrp_plan.specs.Plan.{PlanModel}
+use Rattle.std.specs.Prelude.{◌∷◌, ◌++◌}
+use Rattle.msrp_plan.specs.Common.{ℕ, List, [], codes, PlanModel}
 use Rattle.msrp_plan.specs.Examples.Notation.{job, locks, unlocks}
 use Rattle.msrp_plan.specs.declared.ids.JobId.{JobId}
 use Rattle.msrp_events.specs.Examples.Notation.{task, boot, release, switch, idle, lock, unlock, request, acquire, poll, freed, end, stop, lost, numbered}
