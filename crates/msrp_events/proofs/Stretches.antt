@@ -1,11 +1,12 @@
 -- In a legal log a core runs its choice but for stretches within the slack: the clock of a core runs
 -- exactly while the choice isn't the running job, and no event finds it run for too long.
 use Rattle.std.proofs.Common.{◌≡◌, ◌<◌, ◌+◌, ◌&&◌, ◌==◌, ◌⊎◌, ◌∷◌, ◌++◌, ◌∙◌}
-use Rattle.msrp_plan.proofs.Common.{ℕ, Bool, true, false, not, List, [], Option, Some, None, is_some, refl, ap, sym, subst, arith, inl, inr, length, nat_tests, range_with_len, get_or-replicate, get_or-set_same, length-set, length-replicate, eqb-true, PlanModel, same_choice}
-use Rattle.msrp_plan.proofs.Lists.AnyAll.{any_in, in_range}
+use Rattle.msrp_plan.proofs.Common.{ℕ, Bool, true, false, not, List, [], Option, Some, None, is_some, refl, ap, sym, subst, arith, inl, inr, length, nat_tests, get_or-replicate, get_or-set_same, length-set, length-replicate, eqb-true, PlanModel, same_choice}
+use Rattle.msrp_plan.proofs.Lists.AnyAll.{any_in}
+use Rattle.std.proofs.lemmas.List.Elements.{Contains-get_or}
 use Rattle.msrp_events.specs.Choices.{choice}
 use Rattle.msrp_events.specs.Changes.{LogState, first_state, idle_core, core_at, jobs_with, acts, core_with, cores_acted, cores_timed, since_with, clock_after, core_touched, differs, moved}
-use Rattle.msrp_events.specs.Rules.{is_past, is_overdue_at, any_overdue, allowance}
+use Rattle.msrp_events.specs.Rules.{is_past, is_overdue, any_overdue, allowance}
 use Rattle.msrp_events.specs.Findings.{finding_of}
 use Rattle.msrp_events.specs.Laws.{is_off, HoldsFrom, IsWithin, IsInTime, IsLegalLog, state_after}
 use Rattle.msrp_events.specs.declared.events.Action.{Action}
@@ -77,12 +78,12 @@ in_time (Some u) acted operation slack now t at h = elim (fails_one (is_past (So
   | inr p ↦ inr (not_past acted (operation + slack) now p)
 ]
 
-not_overdue : (tolerances : Tolerances) (s : LogState) (e : Event) (c t : ℕ) → any_overdue tolerances s.cores e.core.0 e.time ≡ false → c < length s.cores → (core_at s.cores c).since ≡ Some t → IsInTime tolerances s c t e
+not_overdue : (tolerances : Tolerances) (s : LogState) (e : Event) (c t : ℕ) → any_overdue tolerances s.cores e.time ≡ false → c < length s.cores → (core_at s.cores c).since ≡ Some t → IsInTime tolerances s c t e
 not_overdue tolerances s e c t none within at =
-    in_time (core_at s.cores c).since (core_at s.cores c).acted tolerances.operation (allowance tolerances (c == e.core.0)) e.time t at (by_test (is_overdue_at tolerances s.cores e.core.0 e.time c) refl)
+    in_time (core_at s.cores c).since (core_at s.cores c).acted tolerances.operation (allowance tolerances) e.time t at (by_test (is_overdue tolerances e.time (core_at s.cores c)) refl)
   where
-    by_test : (b : Bool) → is_overdue_at tolerances s.cores e.core.0 e.time c ≡ b → is_overdue_at tolerances s.cores e.core.0 e.time c ≡ false
-    by_test true is = absurd (let found = any_in (is_overdue_at tolerances s.cores e.core.0 e.time) (range_with_len 0 (length s.cores)) c (in_range c (length s.cores) within) is in cc)
+    by_test : (b : Bool) → is_overdue tolerances e.time (core_at s.cores c) ≡ b → is_overdue tolerances e.time (core_at s.cores c) ≡ false
+    by_test true is = absurd (let found = any_in (is_overdue tolerances e.time) s.cores (core_at s.cores c) (Contains-get_or s.cores c idle_core within) is in cc)
     by_test false is = is
 
 pub in_stretch : (system : PlanModel) (tolerances : Tolerances) (start : List Event) (d : Event) (mid : List Event) (e : Event) (c : ℕ) → IsLegalLog system tolerances (start ++ d ∷ (mid ++ e ∷ [])) → c < system.cores → (state_after system (start ++ d ∷ mid)).stopped ≡ false → HoldsFrom system (is_off system c) start d mid
@@ -90,5 +91,5 @@ pub in_stretch : (system : PlanModel) (tolerances : Tolerances) (start : List Ev
 in_stretch system tolerances start d mid e c legal within runs off =
     let after = state_after system (start ++ d ∷ mid) in
     let it = clock_since system tolerances (λ t. length t.cores ≡ system.cores) (λ t. (core_at t.cores c).since) (is_off system c) (sized system) (λ s e runs h before. clocked_event system tolerances s e c runs h before within) (first_clocked system c within) start d mid e legal runs off in
-    let time = fault_parts (any_overdue tolerances after.cores e.core.0 e.time) E1 _ (accepted system tolerances after e runs it.2).time in
+    let time = fault_parts (any_overdue tolerances after.cores e.time) E1 _ (accepted system tolerances after e runs it.2).time in
     not_overdue tolerances after e c d.time time.0 (let n = it.0 in omega (arith, n, within)) it.1

@@ -44,7 +44,7 @@ continuity s e = lacks_if (nat_le (length s.cores) e.core.0) missing.Core (recor
 
 -- ---- the rules of time
 abbrev pub time_finding : Tolerances → LogState → Event → Option Finding
-time_finding tolerances s e = fault_if (any_overdue tolerances s.cores e.core.0 e.time) E1 (fault_if (any_late tolerances s.free e.time) E2 None)
+time_finding tolerances s e = fault_if (any_overdue tolerances s.cores e.time) E1 (fault_if (any_late tolerances s.free e.time) E2 None)
 
 -- ---- the rules of jobs
 abbrev pub absent : ℕ → ℕ → Option LiveJob → Option Finding

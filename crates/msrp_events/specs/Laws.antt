@@ -88,8 +88,8 @@ IsWithin wait (Some t) now = now ≤ t + wait
 -- the event is within the slack after the time, or after the end of the core's last operation
 abbrev pub IsInTime : Tolerances → LogState → ℕ → ℕ → Event → Type 0
 IsInTime tolerances s c t e =
-    IsWithin (allowance tolerances (c == e.core.0)) (Some t) e.time
-    ⊎ IsWithin (tolerances.operation + allowance tolerances (c == e.core.0)) (core_at s.cores c).acted e.time
+    IsWithin (allowance tolerances) (Some t) e.time
+    ⊎ IsWithin (tolerances.operation + allowance tolerances) (core_at s.cores c).acted e.time
 
 -- the job waits for a global resource, or holds one
 abbrev pub is_engaged : PlanModel → LiveJob → Bool

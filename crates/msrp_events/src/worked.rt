@@ -14,6 +14,7 @@ pub fn legal_log()
     ensures log { finding_in two.system two.tolerances two.log ≡ good }
     ensures after_stop { finding_in two.system two.tolerances two.after_stop ≡ good }
     ensures boots_late { finding_in two.system two.tolerances two.boots_late ≡ good }
+    ensures released_elsewhere { finding_in two.system two.skewed two.released_elsewhere ≡ good }
     ensures level_hi { level two.system 0 ≡ 3 }
     ensures level_far { level two.system 2 ≡ 2 }
     ensures bus { is_global two.system 0 ≡ true }

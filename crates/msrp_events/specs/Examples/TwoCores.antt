@@ -69,6 +69,13 @@ after_stop = log ++ switch 90 1 hi ∷ []
 abbrev pub boots_late : List Event
 boots_late = boot 0 0 ∷ release 5 0 far 105 ∷ boot 20 1 ∷ switch 22 1 far ∷ []
 
+-- the clock of core 1 is behind by 7, and it records a release of core 0
+abbrev pub skewed : Tolerances
+skewed = record tolerances { skew = 7 }
+
+abbrev pub released_elsewhere : List Event
+released_elsewhere = boot 0 0 ∷ boot 1 1 ∷ release 10 1 lo 210 ∷ switch 19 0 lo ∷ []
+
 -- ---- faults
 -- after the unlock lo runs on, but the core should run hi: the next record shows it
 abbrev pub runs_on : List Event
