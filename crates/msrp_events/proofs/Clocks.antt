@@ -4,7 +4,7 @@ use Rattle.std.proofs.Common.{◌≡◌, ◌∷◌, ◌++◌, ◌∙◌}
 use Rattle.msrp_plan.proofs.Common.{ℕ, Bool, true, false, List, [], Option, Some, None, is_some, refl, ap, sym, subst, fold-append, PlanModel}
 use Rattle.msrp_events.specs.Changes.{LogState, first_state, clock_after, moved, state_with, state_from}
 use Rattle.msrp_events.specs.Findings.{finding_of, finding_from}
-use Rattle.msrp_events.specs.Laws.{Stays, HoldsFrom, IsLegalLog, state_after}
+use Rattle.msrp_events.specs.Laws.{Stays, HoldsFrom, state_after}
 use Rattle.msrp_events.specs.declared.events.Event.{Event}
 use Rattle.msrp_events.specs.declared.states.Tolerances.{Tolerances}
 use Rattle.msrp_events.proofs.FirstFindings.{finding-append}
@@ -50,13 +50,13 @@ module _ (system : PlanModel) (tolerances : Tolerances) (P : LogState → Type 0
       clock_kept t (state_with system s e) mid parts.1 runs next.0 stays.1
       (next.1 ∙ (ap (λ b. clock_after b (clock s) e.time) (holds_here (state_with system s e) mid stays.1) ∙ ap (λ o. clock_after true o e.time) at))
 
-  pub clock_since : IsClocked P clock test (first_state system) → (start : List Event) (d : Event) (mid : List Event) (e : Event) → IsLegalLog system tolerances (start ++ d ∷ (mid ++ e ∷ [])) → (state_after system (start ++ d ∷ mid)).stopped ≡ false → HoldsFrom system test start d mid
+  pub clock_since : IsClocked P clock test (first_state system) → (start : List Event) (d : Event) (mid : List Event) (e : Event) → HoldsFrom system tolerances test start d mid e
       → P (state_after system (start ++ d ∷ mid)) × (clock (state_after system (start ++ d ∷ mid)) ≡ Some d.time) × (finding_of system tolerances (state_after system (start ++ d ∷ mid)) e ≡ None)
-  clock_since begins start d mid e legal runs holds =
+  clock_since begins start d mid e holds =
       let s = state_after system start in
       let joined : state_after system (start ++ d ∷ mid) ≡ state_from system s (d ∷ mid) = fold-append (state_with system) (first_state system) start (d ∷ mid) in
-      let running : (state_from system s (d ∷ mid)).stopped ≡ false = subst (λ (t : LogState). t.stopped ≡ false) joined runs in
-      let first = or_parts _ _ (sym (finding-append system tolerances (first_state system) start (d ∷ (mid ++ e ∷ []))) ∙ legal) in
+      let running : (state_from system s (d ∷ mid)).stopped ≡ false = subst (λ (t : LogState). t.stopped ≡ false) joined holds.runs in
+      let first = or_parts _ _ (sym (finding-append system tolerances (first_state system) start (d ∷ (mid ++ e ∷ []))) ∙ holds.legal) in
       let second = or_parts (finding_of system tolerances s d) _ first.1 in
       let third = or_parts _ _ (sym (finding-append system tolerances (state_with system s d) mid (e ∷ [])) ∙ second.1) in
       let before = kept_along system tolerances (IsClocked P clock test) moved_clocked (first_state system) start first.0 begins in

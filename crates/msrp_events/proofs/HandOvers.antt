@@ -14,7 +14,7 @@ use Rattle.msrp_events.specs.LiveJobs.{awaits, holds, is_awaited, is_held, next_
 use Rattle.msrp_events.specs.Changes.{LogState, first_state, free_at, changed_at, last_at, without_at, as_started, as_waiting, as_stepped, released, jobs_stepped, jobs_with, free_timed, resource_touched, clock_after, is_ungranted, moved}
 use Rattle.msrp_events.specs.Rules.{is_late, any_late, is_done}
 use Rattle.msrp_events.specs.Findings.{action_finding}
-use Rattle.msrp_events.specs.Laws.{AreBalanced, HoldsFrom, IsLegalLog, is_due, state_after}
+use Rattle.msrp_events.specs.Laws.{AreBalanced, HoldsFrom, is_due, state_after}
 use Rattle.msrp_events.specs.declared.events.Action.{Action}
 use Rattle.msrp_events.specs.declared.events.Action.TheVariants.{Boot, Release, Switch, Step, End, Stop, Lost}
 use Rattle.msrp_events.specs.declared.events.Event.{Event}
@@ -180,13 +180,13 @@ not_late wait now t [] g none at = absurd (cc)
 not_late wait now t (x ∷ free) zero none at = let late = sym (ap (is_late wait now) at) ∙ (or_parts (is_late wait now x) _ none).0 in grind (arith, nat_tests)
 not_late wait now t (x ∷ free) (suc g) none at = not_late wait now t free g (or_parts (is_late wait now x) _ none).1 at
 
-pub handed_over : (system : PlanModel) (tolerances : Tolerances) (start : List Event) (d : Event) (mid : List Event) (e : Event) (g : ℕ) → AreBalanced system → IsLegalLog system tolerances (start ++ d ∷ (mid ++ e ∷ [])) → g < length system.resources → (state_after system (start ++ d ∷ mid)).stopped ≡ false → HoldsFrom system (is_due system g) start d mid
+pub handed_over : (system : PlanModel) (tolerances : Tolerances) (start : List Event) (d : Event) (mid : List Event) (e : Event) (g : ℕ) → AreBalanced system → g < length system.resources → HoldsFrom system tolerances (is_due system g) start d mid e
     → e.time ≤ d.time + (tolerances.operation + tolerances.slack + tolerances.skew)
-handed_over system tolerances start d mid e g balanced legal within runs due =
+handed_over system tolerances start d mid e g balanced within due =
     let after = state_after system (start ++ d ∷ mid) in
     let it = clock_since system tolerances (λ t. length t.free ≡ length system.resources) (λ t. free_at t.free g) (is_due system g) (sized system)
-    (λ s e runs h before. clock_of system tolerances balanced s e g e.action (accepted system tolerances s e runs h).action before.parts within before.runs) begins start d mid e legal runs due in
-    let time = fault_parts _ E1 _ (accepted system tolerances after e runs it.2).time in
+    (λ s e runs h before. clock_of system tolerances balanced s e g e.action (accepted system tolerances s e runs h).action before.parts within before.runs) begins start d mid e due in
+    let time = fault_parts _ E1 _ (accepted system tolerances after e due.runs it.2).time in
     not_late (tolerances.operation + tolerances.slack + tolerances.skew) e.time d.time after.free g (fault_parts (any_late tolerances after.free e.time) E2 None time.1).0 it.1
   where
     begins : IsClocked (λ t. length t.free ≡ length system.resources) (λ t. free_at t.free g) (is_due system g) (first_state system)

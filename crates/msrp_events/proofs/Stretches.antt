@@ -8,7 +8,7 @@ use Rattle.msrp_events.specs.Choices.{choice}
 use Rattle.msrp_events.specs.Changes.{LogState, first_state, idle_core, core_at, jobs_with, acts, core_with, cores_acted, cores_timed, since_with, clock_after, core_touched, differs, moved}
 use Rattle.msrp_events.specs.Rules.{is_past, is_overdue, any_overdue, allowance}
 use Rattle.msrp_events.specs.Findings.{finding_of}
-use Rattle.msrp_events.specs.Laws.{is_off, HoldsFrom, IsWithin, IsInTime, IsLegalLog, state_after}
+use Rattle.msrp_events.specs.Laws.{is_off, HoldsFrom, IsWithin, IsInTime, state_after}
 use Rattle.msrp_events.specs.declared.events.Action.{Action}
 use Rattle.msrp_events.specs.declared.events.Action.TheVariants.{Boot, Release, Switch, Step, End, Stop, Lost}
 use Rattle.msrp_events.specs.declared.events.Event.{Event}
@@ -86,10 +86,9 @@ not_overdue tolerances s e c t none within at =
     by_test true is = absurd (let found = any_in (is_overdue tolerances e.time) s.cores (core_at s.cores c) (Contains-get_or s.cores c idle_core within) is in cc)
     by_test false is = is
 
-pub in_stretch : (system : PlanModel) (tolerances : Tolerances) (start : List Event) (d : Event) (mid : List Event) (e : Event) (c : ℕ) → IsLegalLog system tolerances (start ++ d ∷ (mid ++ e ∷ [])) → c < system.cores → (state_after system (start ++ d ∷ mid)).stopped ≡ false → HoldsFrom system (is_off system c) start d mid
-    → IsInTime tolerances (state_after system (start ++ d ∷ mid)) c d.time e
-in_stretch system tolerances start d mid e c legal within runs off =
+pub in_stretch : (system : PlanModel) (tolerances : Tolerances) (start : List Event) (d : Event) (mid : List Event) (e : Event) (c : ℕ) → c < system.cores → HoldsFrom system tolerances (is_off system c) start d mid e → IsInTime tolerances (state_after system (start ++ d ∷ mid)) c d.time e
+in_stretch system tolerances start d mid e c within off =
     let after = state_after system (start ++ d ∷ mid) in
-    let it = clock_since system tolerances (λ t. length t.cores ≡ system.cores) (λ t. (core_at t.cores c).since) (is_off system c) (sized system) (λ s e runs h before. clocked_event system tolerances s e c runs h before within) (first_clocked system c within) start d mid e legal runs off in
-    let time = fault_parts (any_overdue tolerances after.cores e.time) E1 _ (accepted system tolerances after e runs it.2).time in
+    let it = clock_since system tolerances (λ t. length t.cores ≡ system.cores) (λ t. (core_at t.cores c).since) (is_off system c) (sized system) (λ s e runs h before. clocked_event system tolerances s e c runs h before within) (first_clocked system c within) start d mid e off in
+    let time = fault_parts (any_overdue tolerances after.cores e.time) E1 _ (accepted system tolerances after e off.runs it.2).time in
     not_overdue tolerances after e c d.time time.0 (let n = it.0 in omega (arith, n, within)) it.1

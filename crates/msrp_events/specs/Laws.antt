@@ -1,5 +1,5 @@
 -- The notions in the laws on logs.
-use Rattle.std.specs.Prelude.{◌∷◌, ◌==◌, ◌&&◌, ◌||◌, if◌then◌else◌, ◌+◌, ◌≡◌, ◌≤◌, ◌⊎◌}
+use Rattle.std.specs.Prelude.{◌∷◌, ◌++◌, ◌==◌, ◌&&◌, ◌||◌, if◌then◌else◌, ◌+◌, ◌≡◌, ◌≤◌, ◌⊎◌}
 use Rattle.msrp_plan.specs.Common.{ℕ, List, [], Bool, true, false, Option, Some, None, count_by, filter, map, filter_map, list_any, Contains, resources, is_global, PlanModel, task_at, holds_after}
 use Rattle.msrp_plan.specs.declared.ids.JobId.{JobId}
 use Rattle.msrp_events.specs.LiveJobs.{is_on, awaits, holds}
@@ -64,8 +64,10 @@ abbrev pub Stays : PlanModel → (LogState → Bool) → LogState → List Event
 Stays system test s [] = test s ≡ true
 Stays system test s (e ∷ events) = (test s ≡ true) × Stays system test (state_with system s e) events
 
--- it doesn't hold after the first events, and does from the next one on
-pub record HoldsFrom (system : PlanModel) (test : LogState → Bool) (start : List Event) (d : Event) (mid : List Event) : Type 0 where
+-- in a legal log, which hasn't stopped before its last event e, the test holds from the event d on
+pub record HoldsFrom (system : PlanModel) (tolerances : Tolerances) (test : LogState → Bool) (start : List Event) (d : Event) (mid : List Event) (e : Event) : Type 0 where
+  pub legal : IsLegalLog system tolerances (start ++ d ∷ (mid ++ e ∷ []))
+  pub runs : (state_after system (start ++ d ∷ mid)).stopped ≡ false
   pub before : test (state_after system start) ≡ false
   pub after : Stays system test (state_with system (state_after system start) d) mid
 

@@ -39,13 +39,13 @@ pub fn first_come_first_served()
 /// job than it runs, then each later event of a legal log is within slack and skew after that event,
 /// or after the end of the core's last operation.
 pub fn stretches()
-    ensures { (system : PlanModel) (tolerances : Tolerated) (start : List LogEvent) (d : LogEvent) (mid : List LogEvent) (e : LogEvent) (c : ℕ) → IsLegalLog system tolerances (start ++ d ∷ (mid ++ e ∷ [])) → c < system.cores → (state_after system (start ++ d ∷ mid)).stopped ≡ false → HoldsFrom system (is_off system c) start d mid → IsInTime tolerances (state_after system (start ++ d ∷ mid)) c d.time e }
+    ensures { (system : PlanModel) (tolerances : Tolerated) (start : List LogEvent) (d : LogEvent) (mid : List LogEvent) (e : LogEvent) (c : ℕ) → c < system.cores → HoldsFrom system tolerances (is_off system c) start d mid e → IsInTime tolerances (state_after system (start ++ d ∷ mid)) c d.time e }
 {}
 
 /// No lost wake-up: if from an event on a resource has been free while a job awaits it, then each
 /// later event of a legal log is within an operation, slack and skew after that event.
 pub fn hand_overs()
-    ensures { (system : PlanModel) (tolerances : Tolerated) (start : List LogEvent) (d : LogEvent) (mid : List LogEvent) (e : LogEvent) (g : ℕ) → AreBalanced system → IsLegalLog system tolerances (start ++ d ∷ (mid ++ e ∷ [])) → g < length system.resources → (state_after system (start ++ d ∷ mid)).stopped ≡ false → HoldsFrom system (is_due system g) start d mid → e.time ≤ d.time + (tolerances.operation + tolerances.slack + tolerances.skew) }
+    ensures { (system : PlanModel) (tolerances : Tolerated) (start : List LogEvent) (d : LogEvent) (mid : List LogEvent) (e : LogEvent) (g : ℕ) → AreBalanced system → g < length system.resources → HoldsFrom system tolerances (is_due system g) start d mid e → e.time ≤ d.time + (tolerances.operation + tolerances.slack + tolerances.skew) }
 {}
 
 /// Nobody preempts a job that waits for a global resource or holds one: in a legal log each switch
