@@ -170,7 +170,7 @@ fn time_core(system: &System, jobs: &[LiveJob], cores: &mut Vec<CoreLog>, core: 
     let place = core.0 as usize;
     let before = cores[place];
     let expected = choice(system, jobs, core);
-    let differs = !is_same_choice(expected, before.run);
+    let differs = before.booted && !is_same_choice(expected, before.run);
     cores[place] = CoreLog {
         since: clock_after(differs, before.since, now),
         ..before

@@ -72,7 +72,7 @@ fn time_finding(tolerances: Tolerances, state: &State, event: Event) -> Option<F
     ensures { result ≡ time_finding tolerances (state_of state.now) event }
 {
     let late = any_late(tolerances, &state.free, event.time);
-    let overdue = any_overdue(tolerances, &state.cores, event.core, event.time);
+    let overdue = any_overdue(tolerances, &state.cores, event.time);
     fault_if(overdue, LogRule::E1, fault_if(late, LogRule::E2, None))
 }
 

@@ -1,12 +1,12 @@
 //! The rules of a legal log, each as a test of one event.
 ghost use Rattle.std.specs.Prelude.{◌≡◌, ◌<◌, ◌+◌, ◌^◌};
-ghost use Rattle.msrp_plan.specs.Common.{All, length};
-ghost use Rattle.msrp_events.specs.Rules.{is_past, is_reached, is_overdue, is_overdue_at, allowance, any_overdue, is_late, any_late, acts_late, is_next_step, is_first, has_outcome, is_done};
+ghost use Rattle.msrp_plan.specs.Common.{All};
+ghost use Rattle.msrp_events.specs.Rules.{is_past, is_reached, is_overdue, allowance, any_overdue, is_late, any_late, acts_late, is_next_step, is_first, has_outcome, is_done};
 ghost use Rattle.msrp_event_audit.specs.LogJobs.{IsKnown};
 
 use crate::jobs::{awaits, first_waiting, is_held, locks_next, unlocks_next};
 use msrp_events::{CoreLog, LiveJob, LockAction, Tolerances};
-use msrp_plan::{CoreId, JobId, ResId};
+use msrp_plan::{JobId, ResId};
 use msrp_system::System;
 
 // Whether more than so long has passed since then.
@@ -31,41 +31,29 @@ fn is_reached(clock: Option<u64>, wait: u64, now: u64) -> bool
     }
 }
 
-// Whether the core has not run the job that it should for longer than this.
-fn is_overdue(operation: u64, slack: u64, now: u64, core: CoreLog) -> bool
-    requires { operation + slack < 2 ^ 64 }
-    ensures { result ≡ is_overdue operation slack now core }
-{
-    core.booted
-        && core.since.is_some()
-        && is_past(core.since, slack, now)
-        && is_past(core.acted, operation + slack, now)
-}
-
-// The slack at the core that the event is of, or at another one.
-fn allowance(tolerances: Tolerances, own: bool) -> u64
-    ensures value { result ≡ allowance tolerances own }
+// How long the kernel may take to react, by clocks that may differ.
+fn allowance(tolerances: Tolerances) -> u64
+    ensures value { result ≡ allowance tolerances }
     ensures most { result < 2 ^ 34 }
 {
-    let slack = u64::from(tolerances.slack);
-    if own {
-        slack
-    } else {
-        slack + u64::from(tolerances.skew)
-    }
+    u64::from(tolerances.slack) + u64::from(tolerances.skew)
+}
+
+// Whether the core has not run the job that it should for longer than this.
+fn is_overdue(tolerances: Tolerances, now: u64, core: CoreLog) -> bool
+    ensures { result ≡ is_overdue tolerances now core }
+{
+    let wait = allowance(tolerances);
+    core.since.is_some()
+        && is_past(core.since, wait, now)
+        && is_past(core.acted, u64::from(tolerances.operation) + wait, now)
 }
 
 /// Whether a core has not run the job that it should for longer than the slack.
-pub(crate) fn any_overdue(tolerances: Tolerances, cores: &[CoreLog], own: CoreId, now: u64) -> bool
-    ensures { result ≡ any_overdue tolerances cores.now own.0 now }
+pub(crate) fn any_overdue(tolerances: Tolerances, cores: &[CoreLog], now: u64) -> bool
+    ensures { result ≡ any_overdue tolerances cores.now now }
 {
-    for c in 0..cores.len() {
-        let slack = allowance(tolerances, c == own.0 as usize);
-        if is_overdue(u64::from(tolerances.operation), slack, now, cores[c]) {
-            return true;
-        }
-    }
-    false
+    cores.iter().any(|core| is_overdue(tolerances, now, *core))
 }
 
 fn is_late(wait: u64, now: u64, clock: Option<u64>) -> bool
@@ -88,10 +76,10 @@ pub(crate) fn any_late(tolerances: Tolerances, free: &[Option<u64>], now: u64) -
 pub(crate) fn acts_late(tolerances: Tolerances, now: u64, core: CoreLog) -> bool
     ensures { result ≡ acts_late tolerances now core }
 {
-    let slack = u64::from(tolerances.slack);
+    let wait = allowance(tolerances);
     core.since.is_some()
-        && is_reached(core.since, slack, now)
-        && is_reached(core.acted, u64::from(tolerances.operation) + slack, now)
+        && is_reached(core.since, wait, now)
+        && is_reached(core.acted, u64::from(tolerances.operation) + wait, now)
 }
 
 /// Whether the step is the job's next one.

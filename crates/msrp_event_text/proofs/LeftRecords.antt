@@ -11,6 +11,7 @@ use Rattle.msrp_events.specs.declared.findings.Missing.TheVariants as missing
 use Rattle.msrp_events.specs.declared.states.Tolerances.{Tolerances}
 use Rattle.msrp_event_text.specs.LogEvents.{event_of}
 use Rattle.msrp_event_text.specs.LogVerdicts.{Answers, error_at, record_shows, events_with, numbers_by, decided_or, settled, verdict_from, is_certain, record_loses, told_by, after_record, confirmed_from, is_head, no_numbers, verdict_of}
+use Rattle.msrp_event_text.specs.declared.confirming.Awaited.{Awaited}
 use Rattle.msrp_event_text.specs.declared.verdicts.LogVerdict.{LogVerdict}
 use Rattle.msrp_event_text.specs.declared.verdicts.LogVerdict.TheVariants.{Fault, Unconfirmed, Incomplete}
 use Rattle.msrp_event_text.specs.declared.verdicts.LogError.{LogError}
@@ -39,13 +40,13 @@ one-left [] found fields after gives some = absurd (cc)
 one-left (r ∷ rest) found fields after gives some = (rest, ap (λ f. f ∷ rest) (sym gives.1), gives.2)
 
 -- ---- findings
-abbrev decided : PlanModel → Tolerances → ℕ → List Event → List (Option ℕ) → List (List ℕ) → List (List (List ℕ)) → Result (Option Finding) LogError → Result LogVerdict LogError
+abbrev decided : PlanModel → Tolerances → ℕ → List Event → List Awaited → List (List ℕ) → List (List (List ℕ)) → Result (Option Finding) LogError → Result LogVerdict LogError
 decided system u number events numbers fields rest shows =
     decided_or shows (settled system number (told_by numbers (event_of system fields)) rest)
     (verdict_from system u (number + 1) (events_with events (event_of system fields)) (numbers_by numbers (event_of system fields)) rest)
 
 -- what the first record shows decides, if it shows something
-pub verdict-decided : (system : PlanModel) (t u : Tolerances) → t ≡ u → (number : ℕ) (events : List Event) (numbers : List (Option ℕ)) (left : List (List (List ℕ))) (fields : List (List ℕ)) (rest : List (List (List ℕ))) → left ≡ fields ∷ rest
+pub verdict-decided : (system : PlanModel) (t u : Tolerances) → t ≡ u → (number : ℕ) (events : List Event) (numbers : List Awaited) (left : List (List (List ℕ))) (fields : List (List ℕ)) (rest : List (List (List ℕ))) → left ≡ fields ∷ rest
     → (shows : Result (Option Finding) LogError) (verdict : Result LogVerdict LogError) → record_shows system t number events fields (event_of system fields) ≡ shows
     → decided system u number events numbers fields rest shows ≡ verdict → verdict_from system u number events numbers left ≡ verdict
 verdict-decided system t u same number events numbers left fields rest at shows verdict h decides =
@@ -55,8 +56,8 @@ verdict-decided system t u same number events numbers left fields rest at shows 
     ∙ decides))
 
 -- and else the rest does, after one event more
-pub verdict-goes : (system : PlanModel) (t u : Tolerances) → t ≡ u → (number : ℕ) (events : List Event) (numbers : List (Option ℕ)) (left : List (List (List ℕ))) (fields : List (List ℕ)) (rest : List (List (List ℕ))) → left ≡ fields ∷ rest
-    → (e : Event) (ns : List (Option ℕ)) → record_shows system t number events fields (event_of system fields) ≡ Ok None → events_with events (event_of system fields) ≡ events ++ e ∷ [] → ns ≡ numbers_by numbers (event_of system fields)
+pub verdict-goes : (system : PlanModel) (t u : Tolerances) → t ≡ u → (number : ℕ) (events : List Event) (numbers : List Awaited) (left : List (List (List ℕ))) (fields : List (List ℕ)) (rest : List (List (List ℕ))) → left ≡ fields ∷ rest
+    → (e : Event) (ns : List Awaited) → record_shows system t number events fields (event_of system fields) ≡ Ok None → events_with events (event_of system fields) ≡ events ++ e ∷ [] → ns ≡ numbers_by numbers (event_of system fields)
     → verdict_from system u (number + 1) (events ++ e ∷ []) ns rest ≡ verdict_from system u number events numbers left
 verdict-goes system t u same number events numbers left fields rest at e ns h one two =
     sym (verdict-decided system t u same number events numbers left fields rest at (Ok None) _ h
@@ -69,16 +70,16 @@ has-event system tolerances number events fields None h = absurd (cc)
 has-event system tolerances number events fields (Some e) h = (e, refl, refl)
 
 -- ---- whether a fault is certain
-pub confirmed-certain : (system : PlanModel) (rule : LogRule) (number at : ℕ) (awaited : List (Option ℕ)) (left : List (List (List ℕ))) → is_certain awaited ≡ true → confirmed_from system rule number at awaited left ≡ Ok (Fault rule number)
+pub confirmed-certain : (system : PlanModel) (rule : LogRule) (number at : ℕ) (awaited : List Awaited) (left : List (List (List ℕ))) → is_certain awaited ≡ true → confirmed_from system rule number at awaited left ≡ Ok (Fault rule number)
 confirmed-certain system rule number at awaited [] h = ap (λ b. if b then Ok (Fault rule number) else Ok (Unconfirmed rule number)) h
 confirmed-certain system rule number at awaited (fields ∷ rest) h =
     ap (λ b. if b then Ok (Fault rule number) else after_record (record_loses awaited at fields (event_of system fields)) (Ok (Incomplete missing.Records at)) (confirmed_from system rule number (at + 1) (told_by awaited (event_of system fields)) rest)) h
 
-pub confirmed-end : (system : PlanModel) (rule : LogRule) (number at : ℕ) (awaited : List (Option ℕ)) (left : List (List (List ℕ))) → is_certain awaited ≡ false → left ≡ [] → confirmed_from system rule number at awaited left ≡ Ok (Unconfirmed rule number)
+pub confirmed-end : (system : PlanModel) (rule : LogRule) (number at : ℕ) (awaited : List Awaited) (left : List (List (List ℕ))) → is_certain awaited ≡ false → left ≡ [] → confirmed_from system rule number at awaited left ≡ Ok (Unconfirmed rule number)
 confirmed-end system rule number at awaited left h none =
     ap (confirmed_from system rule number at awaited) none ∙ ap (λ b. if b then Ok (Fault rule number) else Ok (Unconfirmed rule number)) h
 
-pub confirmed-decided : (system : PlanModel) (rule : LogRule) (number at : ℕ) (awaited : List (Option ℕ)) (left : List (List (List ℕ))) (fields : List (List ℕ)) (rest : List (List (List ℕ))) → is_certain awaited ≡ false → left ≡ fields ∷ rest
+pub confirmed-decided : (system : PlanModel) (rule : LogRule) (number at : ℕ) (awaited : List Awaited) (left : List (List (List ℕ))) (fields : List (List ℕ)) (rest : List (List (List ℕ))) → is_certain awaited ≡ false → left ≡ fields ∷ rest
     → (loses : Result Bool LogError) → record_loses awaited at fields (event_of system fields) ≡ loses
     → confirmed_from system rule number at awaited left ≡ after_record loses (Ok (Incomplete missing.Records at)) (confirmed_from system rule number (at + 1) (told_by awaited (event_of system fields)) rest)
 confirmed-decided system rule number at awaited left fields rest h one loses shows =

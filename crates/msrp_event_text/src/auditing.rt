@@ -10,7 +10,7 @@ ghost use Rattle.msrp_events.specs.declared.findings.Finding.{Finding as Found};
 ghost use Rattle.msrp_event_text.specs.LogEvents.{event_of};
 ghost use Rattle.msrp_event_text.specs.LogVerdicts.{Answers, is_head, is_number, no_numbers, numbers_by, record_shows, settled, told_by, verdict_from, verdict_of};
 
-use crate::confirming::{confirm, no_numbers, note, tell};
+use crate::confirming::{Awaited, confirm, no_numbers, note, tell};
 use crate::events::{event_of, refusal_of};
 use crate::verdicts::{LogError, LogVerdict};
 use csv::ByteRecord;
@@ -45,7 +45,7 @@ fn is_head(system: &System, fields: &ByteRecord) -> bool
 // What a record shows after the others, if it shows something.
 fn judge_record(
     auditor: &mut LogAuditor,
-    numbers: &mut Vec<Option<u64>>,
+    numbers: &mut Vec<Awaited>,
     system: &System,
     fields: &ByteRecord,
     number: u64,
@@ -78,7 +78,7 @@ fn judge_record(
 
 // The verdict where the record of that number has a finding, by the records after it.
 fn settle<R: Read>(
-    numbers: &mut Vec<Option<u64>>,
+    numbers: &mut Vec<Awaited>,
     system: &System,
     records: &mut RecordReader<R>,
     fields: &mut ByteRecord,
@@ -97,7 +97,7 @@ fn settle<R: Read>(
 // The verdict on the records after the first one.
 fn judge_records<R: Read>(
     auditor: &mut LogAuditor,
-    numbers: &mut Vec<Option<u64>>,
+    numbers: &mut Vec<Awaited>,
     system: &System,
     records: &mut RecordReader<R>,
     fields: &mut ByteRecord,
@@ -118,9 +118,9 @@ fn judge_records<R: Read>(
 }
 
 /// The verdict on the events of a text. The first record that is no event, or with which the events
-/// so far have a finding, decides; a fault is certain once each other core that numbers its records
-/// has shown one more, without a gap. Memory is taken for the auditor and one record alone, however
-/// long the text is.
+/// so far have a finding, decides. A fault is certain once the log of each core has begun, and each
+/// other core that numbers its records has shown one more, without a gap. Memory is taken for the
+/// auditor and one record alone, however long the text is.
 pub fn audit_log<R: Read + Drop>(
     alloc: Global,
     text: R,

@@ -1,11 +1,11 @@
 //! Whether a fault is certain: records that were lost before it may explain it, which the next
-//! numbers of the cores' records show.
+//! record of each core shows.
 ghost use Rattle.std.specs.Prelude.{◌≡◌, ◌<◌, ◌+◌, ◌^◌, ◌==◌};
 ghost use Rattle.msrp_plan.specs.Common.{ℕ, List, Some, IfOk, set};
 ghost use Rattle.csv.specs.Records.{fields_of};
 ghost use Rattle.msrp_text.specs.Records.{records_left};
 ghost use Rattle.msrp_event_text.specs.LogEvents.{event_of};
-ghost use Rattle.msrp_event_text.specs.LogVerdicts.{Answers, confirmed_from, is_certain, is_loss, is_lost, is_lost_since, no_numbers, numbers_with, record_loses, told, told_by};
+ghost use Rattle.msrp_event_text.specs.LogVerdicts.{Answers, confirmed_from, is_boot, is_certain, is_loss, is_lost, is_lost_since, is_told, next_of, no_numbers, numbers_with, record_loses, told, told_by};
 
 use crate::events::{event_of, refusal_of};
 use crate::verdicts::{LogError, LogVerdict};
@@ -17,41 +17,72 @@ use msrp_text::records::RecordReader;
 use std::alloc::Global;
 use std::io::Read;
 
-/// The number of each core's last record, before the first one.
-pub(crate) fn no_numbers(alloc: Global, system: &System) -> Result<Vec<Option<u64>>, Memory>
+/// What is awaited of a core before a fault is certain.
+#[derive(Clone, Copy, Debug, PartialEq, Eq)]
+pub(crate) enum Awaited {
+    Nothing,
+    /// Its log's first record.
+    Boot,
+    /// The record after the one of this number.
+    After(u64),
+}
+
+/// What is awaited of each core before the first record.
+pub(crate) fn no_numbers(alloc: Global, system: &System) -> Result<Vec<Awaited>, Memory>
     ensures { IfOk result (λ numbers. numbers.items ≡ no_numbers system.now) }
 {
-    let numbers = vec![in alloc; None; system.cores() as usize]?;
+    let numbers = vec![in alloc; Awaited::Boot; system.cores() as usize]?;
     Ok(numbers)
 }
 
-// Stores a number for a core, if the core is one of the system.
-fn put(numbers: &mut Vec<Option<u64>>, place: usize, number: Option<u64>)
-    ensures { numbers.new.items ≡ set numbers.old.items place number }
+// Stores what is awaited of a core, if the core is one of the system.
+fn put(numbers: &mut Vec<Awaited>, place: usize, awaited: Awaited)
+    ensures { numbers.new.items ≡ set numbers.old.items place awaited }
 {
     if place < numbers.len() {
-        numbers[place] = number;
+        numbers[place] = awaited;
     }
 }
 
-/// Stores the number of an event's record.
-pub(crate) fn note(numbers: &mut Vec<Option<u64>>, event: Event)
+fn next_of(number: Option<u64>) -> Awaited
+    ensures { result ≡ next_of number }
+{
+    match number {
+        Some(number) => Awaited::After(number),
+        None => Awaited::Nothing,
+    }
+}
+
+/// Stores that the record after an event's is awaited of its core.
+pub(crate) fn note(numbers: &mut Vec<Awaited>, event: Event)
     ensures { numbers.new.items ≡ numbers_with numbers.old.items event }
 {
-    put(numbers, event.core.0 as usize, event.number);
+    put(numbers, event.core.0 as usize, next_of(event.number));
 }
 
 /// Stores that nothing is awaited of an event's core: its record follows the one before.
-pub(crate) fn tell(numbers: &mut Vec<Option<u64>>, event: Event)
+pub(crate) fn tell(numbers: &mut Vec<Awaited>, event: Event)
     ensures { numbers.new.items ≡ told numbers.old.items event }
 {
-    put(numbers, event.core.0 as usize, None);
+    put(numbers, event.core.0 as usize, Awaited::Nothing);
 }
 
-fn is_certain(awaited: &[Option<u64>]) -> bool
-    ensures { result ≡ is_certain awaited.now }
+fn is_told(awaited: Awaited) -> bool
+    ensures { result ≡ is_told awaited }
 {
-    awaited.iter().all(|number| number.is_none())
+    matches!(awaited, Awaited::Nothing)
+}
+
+fn is_certain(cores: &[Awaited]) -> bool
+    ensures { result ≡ is_certain cores.now }
+{
+    cores.iter().all(|awaited| is_told(*awaited))
+}
+
+fn is_boot(action: Action) -> bool
+    ensures { result ≡ is_boot action }
+{
+    matches!(action, Action::Boot)
 }
 
 fn is_loss(action: Action) -> bool
@@ -60,14 +91,15 @@ fn is_loss(action: Action) -> bool
     matches!(action, Action::Lost)
 }
 
-// Whether a record shows that others were lost between it and the last one of its core.
-fn is_lost_since(last: Option<u64>, event: Event) -> bool
-    ensures { result ≡ is_lost_since last event }
+// Whether a record shows that others of its core were lost before it.
+fn is_lost_since(awaited: Awaited, event: Event) -> bool
+    ensures { result ≡ is_lost_since awaited event }
 {
-    match (last, event.number) {
-        (Some(last), Some(number)) => is_loss(event.action) || !follows(last, number),
-        (Some(_), None) => is_loss(event.action),
-        (None, _) => false,
+    match (awaited, event.number) {
+        (Awaited::Nothing, _) => false,
+        (Awaited::Boot, _) => !is_boot(event.action),
+        (Awaited::After(last), Some(number)) => is_loss(event.action) || !follows(last, number),
+        (Awaited::After(_), None) => is_loss(event.action),
     }
 }
 
@@ -77,18 +109,18 @@ fn follows(last: u64, number: u64) -> bool
     last < number && number - last == 1
 }
 
-fn is_lost(awaited: &[Option<u64>], event: Event) -> bool
-    ensures { result ≡ is_lost awaited.now event }
+fn is_lost(cores: &[Awaited], event: Event) -> bool
+    ensures { result ≡ is_lost cores.now event }
 {
-    match awaited.get(event.core.0 as usize) {
-        Some(last) => is_lost_since(*last, event),
+    match cores.get(event.core.0 as usize) {
+        Some(awaited) => is_lost_since(*awaited, event),
         None => false,
     }
 }
 
 // Whether a record shows a loss. If it doesn't, its core has told that there was none.
 fn record_loses(
-    awaited: &mut Vec<Option<u64>>,
+    awaited: &mut Vec<Awaited>,
     system: &System,
     fields: &ByteRecord,
     number: u64,
@@ -111,7 +143,7 @@ fn record_loses(
 
 /// The verdict where the record of that number violates a rule, by the records after it.
 pub(crate) fn confirm<R: Read>(
-    awaited: &mut Vec<Option<u64>>,
+    awaited: &mut Vec<Awaited>,
     system: &System,
     records: &mut RecordReader<R>,
     fields: &mut ByteRecord,

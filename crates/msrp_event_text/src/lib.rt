@@ -9,6 +9,7 @@ mod actions;
 mod auditing;
 mod confirming;
 mod events;
+pub mod laws;
 mod numbers;
 mod systems;
 mod verdicts;

@@ -1,3 +1,11 @@
 pub mod FirstFindings
 pub mod WiderTolerances
+pub mod LegalEvents
 pub mod OneHolder
+pub mod RequestOrder
+pub mod OwnCore
+pub mod Clocks
+pub mod Stretches
+pub mod HandOvers
+pub mod Names
+pub mod Preemption

@@ -1,13 +1,13 @@
 -- Greater tolerances find no more: they enter tests of time alone, and never what the state is.
 use Rattle.std.proofs.Common.{◌≡◌, ℕ, ◌≤◌, ◌+◌, Bool, true, false, cond, List, [], ◌∷◌, Option, Some, None, refl, ap, sym, ◌∙◌, subst, arith, nat_lt, nat_le}
 use Rattle.std.proofs.lemmas.Bool.{lt-ltb, ltb-true, le-leb, leb-true}
-use Rattle.std.specs.Prelude.{◌&&◌, ◌||◌, ◌==◌, is_some, length}
-use Rattle.std.specs.List.{list_any, range_with_len}
+use Rattle.std.specs.Prelude.{◌&&◌, ◌||◌, is_some, length}
+use Rattle.std.specs.List.{list_any}
 use Rattle.std.specs.Option.{option_or}
 use Rattle.msrp_plan.specs.Plan.{PlanModel}
 use Rattle.msrp_plan.specs.declared.ids.JobId.{JobId}
 use Rattle.msrp_events.specs.Changes.{LogState, core_at, next_at, state_with}
-use Rattle.msrp_events.specs.Rules.{is_past, is_reached, is_overdue, is_overdue_at, is_late, allowance, any_overdue, any_late, acts_late}
+use Rattle.msrp_events.specs.Rules.{is_past, is_reached, is_overdue, is_late, allowance, any_overdue, any_late, acts_late}
 use Rattle.msrp_events.specs.Findings.{fault_if, lacks_if, time_finding, release_finding, step_finding, action_finding, finding_of, finding_from}
 use Rattle.msrp_events.specs.Laws.{AreWider}
 use Rattle.msrp_events.specs.declared.events.Action.{Action}
@@ -66,18 +66,15 @@ late_keeps : (narrow wide now : ℕ) (clock : Option ℕ) → narrow ≤ wide �
 late_keeps narrow wide now None l h = h
 late_keeps narrow wide now (Some t) l h = let k = ltb-true (t + wide) now h in lt-ltb (t + narrow) now (omega arith)
 
-overdue_keeps : (op op' slack slack' now : ℕ) (c : CoreLog) → op ≤ op' → slack ≤ slack' → is_overdue op' slack' now c ≡ true → is_overdue op slack now c ≡ true
-overdue_keeps op op' slack slack' now c lo ls h =
-    let sum : op + slack ≤ op' + slack' = omega arith in
-    and_keeps c.booted _ _ (and_keeps (is_some c.since) _ _ (ands_keep _ _ _ _ (past_keeps c.since slack slack' now ls) (past_keeps c.acted (op + slack) (op' + slack') now sum))) h
+overdue_keeps : (narrow wide : Tolerances) → AreWider narrow wide → (now : ℕ) (c : CoreLog) → is_overdue wide now c ≡ true → is_overdue narrow now c ≡ true
+overdue_keeps narrow wide w now c h =
+    let a = w.operation in let b = w.slack in let d = w.skew in
+    let wait : allowance narrow ≤ allowance wide = omega arith in
+    let sum : narrow.operation + allowance narrow ≤ wide.operation + allowance wide = omega arith in
+    and_keeps (is_some c.since) _ _ (ands_keep _ _ _ _ (past_keeps c.since _ _ now wait) (past_keeps c.acted _ _ now sum)) h
 
-allowed : (narrow wide : Tolerances) (own : Bool) → AreWider narrow wide → allowance narrow own ≤ allowance wide own
-allowed narrow wide true w = w.slack
-allowed narrow wide false w = let a = w.slack in let b = w.skew in omega arith
-
-any_overdue_keeps : (narrow wide : Tolerances) → AreWider narrow wide → (cores : List CoreLog) (own now : ℕ) → any_overdue wide cores own now ≡ true → any_overdue narrow cores own now ≡ true
-any_overdue_keeps narrow wide w cores own now = any_keeps (is_overdue_at narrow cores own now) (is_overdue_at wide cores own now)
-    (λ c. overdue_keeps narrow.operation wide.operation (allowance narrow (c == own)) (allowance wide (c == own)) now (core_at cores c) w.operation (allowed narrow wide (c == own) w)) (range_with_len 0 (length cores))
+any_overdue_keeps : (narrow wide : Tolerances) → AreWider narrow wide → (cores : List CoreLog) (now : ℕ) → any_overdue wide cores now ≡ true → any_overdue narrow cores now ≡ true
+any_overdue_keeps narrow wide w cores now = any_keeps (is_overdue narrow now) (is_overdue wide now) (overdue_keeps narrow wide w now) cores
 
 any_late_keeps : (narrow wide : Tolerances) → AreWider narrow wide → (free : List (Option ℕ)) (now : ℕ) → any_late wide free now ≡ true → any_late narrow free now ≡ true
 any_late_keeps narrow wide w free now =
@@ -87,16 +84,17 @@ any_late_keeps narrow wide w free now =
 
 acts_late_keeps : (narrow wide : Tolerances) → AreWider narrow wide → (now : ℕ) (c : CoreLog) → acts_late wide now c ≡ true → acts_late narrow now c ≡ true
 acts_late_keeps narrow wide w now c h =
-    let a = w.operation in let b = w.slack in
-    let sum : narrow.operation + narrow.slack ≤ wide.operation + wide.slack = omega arith in
-    and_keeps (is_some c.since) _ _ (ands_keep _ _ _ _ (reached_keeps c.since narrow.slack wide.slack now w.slack) (reached_keeps c.acted _ _ now sum)) h
+    let a = w.operation in let b = w.slack in let d = w.skew in
+    let wait : allowance narrow ≤ allowance wide = omega arith in
+    let sum : narrow.operation + allowance narrow ≤ wide.operation + allowance wide = omega arith in
+    and_keeps (is_some c.since) _ _ (ands_keep _ _ _ _ (reached_keeps c.since _ _ now wait) (reached_keeps c.acted _ _ now sum)) h
 
 room_keeps : (narrow wide n : ℕ) → narrow ≤ wide → nat_le wide n ≡ true → nat_le narrow n ≡ true
 room_keeps narrow wide n l h = let k = leb-true wide n h in le-leb narrow n (omega arith)
 
 -- ---- one event
 time_keeps : (narrow wide : Tolerances) → AreWider narrow wide → (s : LogState) (e : Event) → time_finding narrow s e ≡ None → time_finding wide s e ≡ None
-time_keeps narrow wide w s e = fault_keeps _ _ _ _ _ (any_overdue_keeps narrow wide w s.cores e.core.0 e.time) (fault_keeps _ _ _ _ _ (any_late_keeps narrow wide w s.free e.time) (λ h. h))
+time_keeps narrow wide w s e = fault_keeps _ _ _ _ _ (any_overdue_keeps narrow wide w s.cores e.time) (fault_keeps _ _ _ _ _ (any_late_keeps narrow wide w s.free e.time) (λ h. h))
 
 release_keeps : (system : PlanModel) (narrow wide : Tolerances) → AreWider narrow wide → (s : LogState) (j : JobId) → release_finding system narrow s j ≡ None → release_finding system wide s j ≡ None
 release_keeps system narrow wide w s j =

@@ -1,7 +1,6 @@
 -- What each event changes: the state without tolerances, and its clocks.
-use Rattle.std.specs.Prelude.{ℕ, List, [], ◌∷◌, ◌++◌, Bool, true, false, ◌&&◌, not, Option, Some, None, fold, set, remove, replicate, slice_index_or, length, if◌then◌else◌, ◌+◌}
-use Rattle.msrp_plan.specs.Plan.{PlanModel, core_of}
-use Rattle.msrp_plan.specs.Runs.{same_choice}
+use Rattle.std.specs.Prelude.{◌∷◌, ◌++◌, ◌&&◌, remove, if◌then◌else◌, ◌+◌}
+use Rattle.msrp_plan.specs.Common.{ℕ, List, [], Bool, true, false, not, Option, Some, None, fold, set, replicate, slice_index_or, length, PlanModel, core_of, same_choice}
 use Rattle.msrp_plan.specs.declared.ids.JobId.{JobId}
 use Rattle.msrp_events.specs.LiveJobs.{place_of, is_held, is_awaited}
 use Rattle.msrp_events.specs.Choices.{choice}
@@ -127,9 +126,9 @@ abbrev pub resource_touched : Action → Option ℕ
 resource_touched (Step kind j r) = Some r.0
 resource_touched _ = None
 
--- the core should run another job than it does
+-- the core, whose log has begun, should run another job than it does
 abbrev pub differs : PlanModel → List LiveJob → CoreLog → ℕ → Bool
-differs system jobs core c = not (same_choice (choice system jobs c) core.run)
+differs system jobs core c = core.booted && not (same_choice (choice system jobs c) core.run)
 
 -- the resource is free while a job awaits it
 abbrev pub is_ungranted : PlanModel → List LiveJob → ℕ → Bool

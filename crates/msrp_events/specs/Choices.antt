@@ -1,12 +1,7 @@
 -- The job that a core should run after some events: EDF under the SRP, as in a plan's ticks.
-use Rattle.std.specs.Prelude.{ℕ, List, Bool, true, false, ◌&&◌, not, nat_lt, Option, Some, None, if◌then◌else◌, filter}
-use Rattle.std.specs.List.{list_any}
-use Rattle.std.specs.Option.{option_map}
-use Rattle.std.specs.Ordering.{is_lt}
-use Rattle.msrp_plan.specs.Plan.{PlanModel}
-use Rattle.msrp_plan.specs.Levels.{level}
+use Rattle.std.specs.Prelude.{◌&&◌, if◌then◌else◌}
+use Rattle.msrp_plan.specs.Common.{ℕ, List, Bool, true, false, not, nat_lt, Option, Some, None, filter, list_any, option_map, is_lt, PlanModel, level, key_cmp, least}
 use Rattle.msrp_plan.specs.Ceiling.{ceiling_with}
-use Rattle.msrp_plan.specs.Choice.{key_cmp, least}
 use Rattle.msrp_plan.specs.declared.ids.JobId.{JobId}
 use Rattle.msrp_events.specs.LiveJobs.{live_key, is_on, holds}
 use Rattle.msrp_events.specs.declared.states.LiveJob.{LiveJob}

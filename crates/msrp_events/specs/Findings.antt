@@ -1,9 +1,6 @@
 -- The order of the checks: an event's finding is the first line that it violates.
-use Rattle.std.specs.Prelude.{ℕ, List, [], ◌∷◌, Bool, true, false, ◌==◌, not, nat_lt, nat_le, Option, Some, None, if◌then◌else◌, length, ◌+◌}
-use Rattle.std.specs.Option.{option_or}
-use Rattle.msrp_plan.specs.Plan.{PlanModel, core_of}
-use Rattle.msrp_plan.specs.Jobs.{is_job}
-use Rattle.msrp_plan.specs.Runs.{same_choice}
+use Rattle.std.specs.Prelude.{◌∷◌, ◌==◌, if◌then◌else◌, ◌+◌}
+use Rattle.msrp_plan.specs.Common.{ℕ, List, [], Bool, true, false, not, nat_lt, nat_le, Option, Some, None, length, option_or, PlanModel, core_of, is_job, same_choice}
 use Rattle.msrp_plan.specs.declared.ids.JobId.{JobId}
 use Rattle.msrp_events.specs.LiveJobs.{live}
 use Rattle.msrp_events.specs.Choices.{choice}
@@ -47,7 +44,7 @@ continuity s e = lacks_if (nat_le (length s.cores) e.core.0) missing.Core (recor
 
 -- ---- the rules of time
 abbrev pub time_finding : Tolerances → LogState → Event → Option Finding
-time_finding tolerances s e = fault_if (any_overdue tolerances s.cores e.core.0 e.time) E1 (fault_if (any_late tolerances s.free e.time) E2 None)
+time_finding tolerances s e = fault_if (any_overdue tolerances s.cores e.time) E1 (fault_if (any_late tolerances s.free e.time) E2 None)
 
 -- ---- the rules of jobs
 abbrev pub absent : ℕ → ℕ → Option LiveJob → Option Finding

@@ -1,11 +1,8 @@
 -- The released, unended jobs, and what each holds and awaits. A system is a plan without ticks and
 -- release times: its deadlines are in ns, and its tasks' units are only locks and unlocks.
-use Rattle.std.specs.Prelude.{ℕ, List, Bool, false, ◌==◌, ◌&&◌, Option, Some, None, take, slice_get, ◌-◌}
-use Rattle.std.specs.List.{list_any, position}
-use Rattle.std.specs.Option.{option_and_then}
-use Rattle.msrp_plan.specs.Plan.{PlanModel, task_of, core_of, units}
-use Rattle.msrp_plan.specs.Jobs.{same_job}
-use Rattle.msrp_plan.specs.Units.{is_lock_of, is_unlock_of, holds_after}
+use Rattle.std.specs.Prelude.{◌==◌, ◌&&◌, ◌-◌}
+use Rattle.msrp_plan.specs.Common.{ℕ, List, Bool, false, Option, Some, None, take, slice_get, list_any, option_and_then, PlanModel, task_of, core_of, units, same_job, is_lock_of, is_unlock_of, holds_after}
+use Rattle.std.specs.List.{position}
 use Rattle.msrp_plan.specs.declared.ids.JobId.{JobId}
 use Rattle.msrp_plan.specs.declared.ids.JobKey.{JobKey}
 use Rattle.msrp_plan.specs.declared.units.Op.{Op}

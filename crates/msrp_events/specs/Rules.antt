@@ -1,13 +1,8 @@
 -- The rules of a legal log, and what a log may lack. Each is a test of one event after others.
-use Rattle.std.specs.Prelude.{ℕ, List, Bool, true, false, ◌==◌, ◌&&◌, ◌||◌, not, nat_lt, nat_le, is_some, Option, Some, None, length, ◌+◌, find}
-use Rattle.std.specs.List.{list_any, range_with_len}
-use Rattle.std.specs.Option.{option_map}
-use Rattle.msrp_plan.specs.Plan.{PlanModel, units}
-use Rattle.msrp_plan.specs.Jobs.{is_job}
-use Rattle.msrp_plan.specs.Levels.{is_global}
+use Rattle.std.specs.Prelude.{◌==◌, ◌&&◌, ◌||◌, ◌+◌}
+use Rattle.msrp_plan.specs.Common.{ℕ, List, Bool, true, false, not, nat_lt, nat_le, is_some, Option, Some, None, length, find, list_any, option_map, PlanModel, units, is_job, is_global}
 use Rattle.msrp_plan.specs.declared.ids.JobId.{JobId}
 use Rattle.msrp_events.specs.LiveJobs.{next_unit, locks_next, unlocks_next, awaits, is_held}
-use Rattle.msrp_events.specs.Changes.{core_at}
 use Rattle.msrp_events.specs.declared.states.LiveJob.{LiveJob}
 use Rattle.msrp_events.specs.declared.states.CoreLog.{CoreLog}
 use Rattle.msrp_events.specs.declared.states.Tolerances.{Tolerances}
@@ -24,20 +19,17 @@ abbrev pub is_reached : Option ℕ → ℕ → ℕ → Bool
 is_reached None wait now = true
 is_reached (Some t) wait now = nat_le (t + wait) now
 
+-- how long the kernel may take to react. A clock may have begun by another core's time: a release
+-- may be recorded by any core
+abbrev pub allowance : Tolerances → ℕ
+allowance tolerances = tolerances.slack + tolerances.skew
+
 -- E1: for longer than this the core hasn't run the right job, from its own last operation's end on
-abbrev pub is_overdue : ℕ → ℕ → ℕ → CoreLog → Bool
-is_overdue operation slack now c = c.booted && (is_some c.since && (is_past c.since slack now && is_past c.acted (operation + slack) now))
+abbrev pub is_overdue : Tolerances → ℕ → CoreLog → Bool
+is_overdue tolerances now c = is_some c.since && (is_past c.since (allowance tolerances) now && is_past c.acted (tolerances.operation + allowance tolerances) now)
 
--- clocks of other cores may differ
-abbrev pub allowance : Tolerances → Bool → ℕ
-allowance tolerances true = tolerances.slack
-allowance tolerances false = tolerances.slack + tolerances.skew
-
-abbrev pub is_overdue_at : Tolerances → List CoreLog → ℕ → ℕ → ℕ → Bool
-is_overdue_at tolerances cores own now c = is_overdue tolerances.operation (allowance tolerances (c == own)) now (core_at cores c)
-
-abbrev pub any_overdue : Tolerances → List CoreLog → ℕ → ℕ → Bool
-any_overdue tolerances cores own now = list_any (is_overdue_at tolerances cores own now) (range_with_len 0 (length cores))
+abbrev pub any_overdue : Tolerances → List CoreLog → ℕ → Bool
+any_overdue tolerances cores now = list_any (is_overdue tolerances now) cores
 
 -- E2: for longer than this the resource has been free while a job awaits it
 abbrev pub is_late : ℕ → ℕ → Option ℕ → Bool
@@ -49,7 +41,7 @@ any_late tolerances free now = list_any (is_late (tolerances.operation + toleran
 
 -- E8, for a step: for as long as allowed the core hasn't run the right job, and another still acts
 abbrev pub acts_late : Tolerances → ℕ → CoreLog → Bool
-acts_late tolerances now c = is_some c.since && (is_reached c.since tolerances.slack now && is_reached c.acted (tolerances.operation + tolerances.slack) now)
+acts_late tolerances now c = is_some c.since && (is_reached c.since (allowance tolerances) now && is_reached c.acted (tolerances.operation + allowance tolerances) now)
 
 -- ---- the rules of a step
 -- E9: the step is the job's next one; exactly a waiting job acquires or polls

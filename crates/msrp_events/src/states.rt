@@ -26,7 +26,7 @@ pub struct CoreLog {
     pub number: Option<u64>,
     /// The running job.
     pub run: Option<JobId>,
-    /// Since when another job than the running one is chosen.
+    /// Since when another job than the running one is chosen, from the core's boot on.
     pub since: Option<u64>,
     /// When the core last used a resource.
     pub acted: Option<u64>,

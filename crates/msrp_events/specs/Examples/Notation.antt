@@ -1,7 +1,5 @@
 -- How the examples write systems and logs.
-use Rattle.std.specs.Prelude.{ℕ, List, Option, Some, None}
-use Rattle.msrp_plan.specs.Plan.{TaskModel}
-use Rattle.msrp_plan.specs.ReleaseTimes.{Every}
+use Rattle.msrp_plan.specs.Common.{ℕ, List, Option, Some, None, TaskModel, Every}
 use Rattle.msrp_plan.specs.declared.ids.JobId.{JobId}
 use Rattle.msrp_plan.specs.declared.units.Op.{Op}
 use Rattle.msrp_events.specs.declared.events.Action.{Action}

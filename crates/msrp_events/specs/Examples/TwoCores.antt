@@ -1,7 +1,7 @@
 -- Two cores: hi and lo share cal, so lo blocks hi while it has cal; lo and far, of another core,
 -- share bus. An operation takes 1 ns, and the kernel reacts within 2 ns.
-use Rattle.std.specs.Prelude.{ℕ, List, [], ◌∷◌, ◌++◌, codes}
-use Rattle.msrp_plan.specs.Plan.{PlanModel}
+use Rattle.std.specs.Prelude.{◌∷◌, ◌++◌}
+use Rattle.msrp_plan.specs.Common.{ℕ, List, [], codes, PlanModel}
 use Rattle.msrp_plan.specs.Examples.Notation.{job, locks, unlocks}
 use Rattle.msrp_plan.specs.declared.ids.JobId.{JobId}
 use Rattle.msrp_events.specs.Examples.Notation.{task, boot, release, switch, idle, lock, unlock, request, acquire, poll, freed, end, stop, lost, numbered}
@@ -64,6 +64,17 @@ log = handed_over ++ acquire 26 1 far bus ∷ end 27 0 lo ∷ freed 28 1 far bus
 -- after the log has stopped nothing is judged
 abbrev pub after_stop : List Event
 after_stop = log ++ switch 90 1 hi ∷ []
+
+-- far is released before the log of its core begins, and runs within the slack after that
+abbrev pub boots_late : List Event
+boots_late = boot 0 0 ∷ release 5 0 far 105 ∷ boot 20 1 ∷ switch 22 1 far ∷ []
+
+-- the clock of core 1 is behind by 7, and it records a release of core 0
+abbrev pub skewed : Tolerances
+skewed = record tolerances { skew = 7 }
+
+abbrev pub released_elsewhere : List Event
+released_elsewhere = boot 0 0 ∷ boot 1 1 ∷ release 10 1 lo 210 ∷ switch 19 0 lo ∷ []
 
 -- ---- faults
 -- after the unlock lo runs on, but the core should run hi: the next record shows it
