@@ -1,17 +1,7 @@
 -- A look and an arrival keep the rule.
 use Rattle.msrp_plan.proofs.Common.{ltb, leb, ⊎_elim, ℕ, zero, suc, List, [], length, set, Bool, true, false, refl, sym, ap, subst, arith, slice_index, some, none, some-injective, some-ne-none, get_elem?, mul-le, mod-mul-add, div-mul-add, length-set, get_or-set_same, get_or-set_other}
 use Rattle.std.proofs.Common.{◌≡◌, ◌≢◌, ◌+◌, ◌*◌, ◌/◌, ◌%◌, ◌^◌, ◌<◌, ◌≤◌, ◌∷◌, ◌∙◌, ltb-true, leb-true}
-use Rattle.atomic_table.specs.Table.{State, Me, step, keeps, stepped, Allows}
-use Rattle.atomic_table.proofs.Lists.{at_set}
-use Rattle.msrp_board.specs.declared.pages.Page.{Page}
-use Rattle.msrp_board.specs.declared.pages.View.{View}
-use Rattle.msrp_board.specs.declared.books.BoardSize.{BoardSize}
-use Rattle.msrp_board.specs.declared.books.Conductor.{Conductor}
-use Rattle.msrp_board.specs.declared.books.Conductor.TheVariants.{Unopened, Opened, Aborted}
-use Rattle.msrp_board.specs.Books.{on_resource, admissions_of}
-use Rattle.msrp_board.specs.History.{by_core}
-use Rattle.msrp_board.specs.Boards.{opening_count, abort_count}
-use Rattle.msrp_board.specs.Inside.Rule.{arrivals, page_admissions, HasConductor, Gathered, IsServedNewest, IsKeptNewest, Ruled, HasOnly, with_pages, page_with_arrival, TellsArrival, page_after_look_if, page_after_look, TellsLook}
+use Rattle.msrp_board.proofs.Common.{Aborted, Allows, BoardSize, Conductor, Gathered, HasConductor, HasOnly, IsKeptNewest, IsServedNewest, Me, Opened, Page, Ruled, State, TellsArrival, TellsLook, Unopened, View, abort_count, admissions_of, arrivals, at_set, by_core, keeps, on_resource, opening_count, page_admissions, page_after_look, page_after_look_if, page_with_arrival, step, stepped, with_pages}
 use Rattle.msrp_board.proofs.Sharing.{same_shared}
 use Rattle.msrp_board.proofs.Counts.{arrivals_set, total_same}
 use Rattle.msrp_board.proofs.TicketSteps.{shared_step}

@@ -1,16 +1,7 @@
 -- The conductor's steps keep the rule.
 use Rattle.std.proofs.Common.{◌≡◌, ◌≢◌, ◌+◌, ◌%◌, ◌^◌, ◌∙◌}
 use Rattle.msrp_plan.proofs.Common.{⊎_elim, ℕ, List, [], set, Some, refl, sym, ap, subst, arith, slice_index, some, none, get_elem?, length-set, get_or-set_same, get_or-set_other, same_Some}
-use Rattle.atomic_table.specs.Table.{State, Me, step, keeps, stepped, Allows}
-use Rattle.atomic_table.proofs.Lists.{at_set, set_here}
-use Rattle.msrp_board.specs.declared.pages.View.{View}
-use Rattle.msrp_board.specs.declared.states.States.{States}
-use Rattle.msrp_board.specs.Inside.Held.{IsHeld}
-use Rattle.std.specs.declared.option.Option.{Option}
-use Rattle.msrp_board.specs.declared.books.BoardSize.{BoardSize}
-use Rattle.msrp_board.specs.declared.books.Conductor.{Conductor}
-use Rattle.msrp_board.specs.declared.books.Conductor.TheVariants.{Unopened, Opened, Aborted}
-use Rattle.msrp_board.specs.Inside.Rule.{OwnsBy, SharedConductor, HasConductor, HasPage, Gathered, IsServedNewest, Ruled, view_with_conductor, TellsOpening, TellsAbort}
+use Rattle.msrp_board.proofs.Common.{Aborted, Allows, BoardSize, Conductor, Gathered, HasConductor, HasPage, IsHeld, IsServedNewest, Me, Opened, Option, OwnsBy, Ruled, SharedConductor, State, States, TellsAbort, TellsOpening, Unopened, View, at_set, keeps, set_here, step, stepped, view_with_conductor}
 use Rattle.msrp_board.proofs.Sharing.{same_shared}
 use Rattle.msrp_board.proofs.BarrierSteps.{few_arrivals}
 use Rattle.msrp_board.proofs.Queue.{in_range}

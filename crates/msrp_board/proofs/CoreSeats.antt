@@ -1,20 +1,10 @@
 -- A core's seat, for whoever makes its calls: how it comes about, what its readers tell, and that
 -- it stays one.
 use Rattle.msrp_plan.proofs.Common.{ℕ, zero, suc, List, [], map, Bool, true, false, nat_lt, Some, None, refl, sym, subst, ap, arith, ne_eqb, slice_index_or, IsSome, list_any, AllByRecursion, dite, ℕ_discrete}
-use Rattle.msrp_plan.specs.declared.units.Phase.{Phase}
+use Rattle.msrp_board.proofs.Common.{BoardModel, BoardSize, Book, Entry, Go, HasCore, IsCoreSeat, IsCoreSeatOn, IsFresh, IsIn, IsKept, IsSeat, MayAct, Option, Phase, SeatModel, SeatPhase, Wait, Waiting, admissions_of, alone, book_at, book_with_admission, has_acted, is_some, lock_of, only_at, option_map, phase_by, phase_in, with_admission, with_books, with_stop}
 use Rattle.std.proofs.Common.{◌==◌, ◌||◌, ◌≡◌, ◌<◌, ◌∷◌, ◌∙◌, true≢false}
-use Rattle.std.specs.Option.{option_map, is_some}
-use Rattle.std.specs.declared.option.Option.{Option}
 use Rattle.msrp_board.specs.declared.answers.Look.{Look}
-use Rattle.msrp_board.specs.declared.answers.Look.TheVariants.{Wait, Go, Stopped}
-use Rattle.msrp_board.specs.declared.answers.SeatPhase.{SeatPhase}
-use Rattle.msrp_board.specs.declared.answers.SeatPhase.TheVariants.{Waiting}
-use Rattle.msrp_board.specs.declared.books.Entry.{Entry}
-use Rattle.msrp_board.specs.declared.books.Book.{Book}
-use Rattle.msrp_board.specs.declared.books.BoardSize.{BoardSize}
-use Rattle.msrp_board.specs.Books.{phase_by, phase_in, has_acted, lock_of, admissions_of, IsKept}
-use Rattle.msrp_board.specs.Seats.{BoardModel, SeatModel, book_at, IsSeat, IsCoreSeat, IsCoreSeatOn, HasCore, IsIn, IsFresh, MayAct}
-use Rattle.msrp_board.specs.Steps.{with_books, book_with_admission, with_admission, with_stop, only_at, alone}
+use Rattle.msrp_board.specs.declared.answers.Look.TheVariants.{Stopped}
 use Rattle.msrp_board.proofs.SeatBooks.{at-only_other, book_at-alone}
 
 -- a core's seat is of one core, and has one book

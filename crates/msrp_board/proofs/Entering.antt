@@ -1,15 +1,8 @@
 -- What a step on a ticket word tells, by the halves that it found.
 use Rattle.std.proofs.Common.{◌==◌, ◌≡◌, ◌+◌, ◌∙◌}
 use Rattle.msrp_plan.proofs.Common.{ℕ, sym, ap, subst, none}
-use Rattle.msrp_plan.specs.declared.units.Call.{Call}
-use Rattle.msrp_plan.specs.declared.units.Call.TheVariants.{Poll}
-use Rattle.atomic_table.specs.Table.{Me, step}
-use Rattle.msrp_board.specs.declared.held.Claim.TheVariants.{Waits}
-use Rattle.msrp_board.specs.declared.pages.View.{View}
+use Rattle.msrp_board.proofs.Common.{Call, HasEntered, Me, Poll, TellsPoll, View, ViewIsBehind, ViewMayAct, Waits, high, low, page_with_entry, page_with_poll, step, ticket_of, with_pages}
 use Rattle.msrp_board.specs.declared.words.TicketWord.{TicketWord}
-use Rattle.msrp_board.specs.Words.{high, low}
-use Rattle.msrp_board.specs.Inside.Newest.{ticket_of}
-use Rattle.msrp_board.specs.Inside.Rule.{HasEntered, TellsPoll, ViewIsBehind, ViewMayAct, with_pages, page_with_entry, page_with_poll}
 use Rattle.msrp_board.proofs.Seats.{sole_change}
 
 -- the word, by its halves

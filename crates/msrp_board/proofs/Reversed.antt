@@ -1,18 +1,8 @@
 -- What a board keeps newest first, read oldest first: its histories, and its books.
 use Rattle.msrp_plan.proofs.Common.{ℕ, List, [], reverse, Bool, true, false, cond, fold, refl, sym, ap, subst, arith, append-nil, count_by, AllByRecursion, sum_by-append, sum_by-cons, FifoLock, free_lock, lock_after, Answers, Legal, ResCall, claim_with, IsDueCall, lock_from}
-use Rattle.msrp_plan.specs.declared.units.Call.{Call}
-use Rattle.msrp_plan.specs.declared.units.Call.TheVariants.{Ask, Poll, Leave}
-use Rattle.msrp_plan.specs.declared.units.Phase.{Phase}
-use Rattle.msrp_plan.specs.declared.units.Phase.TheVariants.{Free}
+use Rattle.msrp_board.proofs.Common.{Ask, Call, Claim, Entry, Event, Free, IsChain, IsClaimInTurn, IsHistory, IsNotLater, IsPollAfter, IsRegularNewest, Leave, LegalNewest, NoneLater, OnTrue, Phase, Placed, PlacedNewest, Poll, PollsInOrder, PollsNewest, RisingNewest, TicksNewest, ToNext, are_polls, asks, asks_after, by_core, calls, claim_of, is_poll, is_release, is_request, leaves, leaves_after, lock, on_resource, phase_of, place_after, res_calls}
 use Rattle.std.proofs.Common.{◌==◌, ◌≡◌, ◌+◌, ◌<◌, ◌≤◌, ◌∷◌, ◌++◌, ◌∙◌, true≢false}
-use Rattle.std.specs.Bool.{OnTrue}
-use Rattle.msrp_board.specs.declared.books.Entry.{Entry}
-use Rattle.msrp_board.specs.declared.held.Claim.{Claim}
-use Rattle.msrp_board.specs.Books.{on_resource, res_calls, ToNext, IsChain}
 use Rattle.msrp_plan.specs.Calls.{IsRegularFrom, IsRegular}
-use Rattle.msrp_board.specs.History.{Event, by_core, calls, is_request, is_poll, is_release, place_after, Placed, PollsInOrder, IsNotLater, IsHistory}
-use Rattle.msrp_board.specs.Inside.Newest.{asks_after, leaves_after, asks, leaves, lock, LegalNewest, PlacedNewest, RisingNewest, NoneLater, are_polls, IsPollAfter, PollsNewest, claim_of, IsClaimInTurn, IsRegularNewest, TicksNewest}
-use Rattle.msrp_board.specs.Inside.Held.{phase_of}
 use Rattle.msrp_board.proofs.Lists.{reverse_cons, fold_last, all_reversed, filter_reversed, chain_reversed}
 use Rattle.msrp_board.proofs.Told.{lock_newest, res_calls_newest}
 use Rattle.msrp_plan.proofs.Queues.LockHistories.{legal_push}

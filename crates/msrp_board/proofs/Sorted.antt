@@ -1,12 +1,7 @@
 -- Polls of one place stand by tick, then core: a new poll is put in among the newest.
 use Rattle.msrp_plan.proofs.Common.{eqb, cond, ltb, eq-eqb, ne_eqb, eqb-true, inl, inr, ℕ, suc, List, [], length, Bool, true, false, refl, sym, ap, subst, arith, dite, ℕ_discrete, Answers}
-use Rattle.msrp_plan.specs.declared.units.Call.{Call}
-use Rattle.msrp_plan.specs.declared.units.Call.TheVariants.{Ask, Poll, Leave}
+use Rattle.msrp_board.proofs.Common.{Ask, Call, Event, IsPollAfter, Leave, LegalNewest, NoneLater, OnTrue, PlacedNewest, Poll, PollsNewest, RisingNewest, are_polls, asks, by_core, granted, granted_after, leaves, queue}
 use Rattle.std.proofs.Common.{◌&&◌, ◌≡◌, ◌≢◌, ◌⊎◌, ◌<◌, ◌≤◌, ◌∷◌, ◌∙◌, ltb-true, ltb-false, true≢false}
-use Rattle.std.specs.Bool.{OnTrue}
-use Rattle.msrp_board.specs.History.{Event, by_core}
-use Rattle.msrp_board.specs.Inside.Newest.{asks, leaves, queue, granted, LegalNewest, PlacedNewest, NoneLater, RisingNewest, are_polls, IsPollAfter, PollsNewest}
-use Rattle.msrp_plan.specs.FifoLock.{granted_after}
 use Rattle.msrp_board.proofs.Queue.{by_other}
 
 abbrev pub jumps : Event → Event → Bool

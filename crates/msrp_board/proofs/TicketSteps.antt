@@ -1,30 +1,13 @@
 -- A request, a poll and a release keep the rule.
 use Rattle.msrp_plan.proofs.Common.{eq-eqb, ne_eqb, inl, inr, ⊎_elim, ℕ, zero, suc, List, [], length, set, Some, Bool, true, false, refl, sym, ap, subst, arith, slice_index, some, none, some-injective, some-ne-none, dite, ℕ_discrete, get_elem?, mul-le, mod-mul-add, div-mul-add, length-set, get_or-set_same, get_or-set_other, Answers, IsAmong, IsFirst}
-use Rattle.msrp_plan.specs.declared.units.Call.{Call}
-use Rattle.msrp_plan.specs.declared.units.Call.TheVariants.{Ask, Poll, Leave}
+use Rattle.msrp_board.proofs.Common.{Allows, AreBefore, Ask, BoardSize, Call, Claim, Conductor, Entry, Event, Gathered, HasConductor, HasOnly, HasPage, Holds, IsBefore, IsClaimInTurn, IsKeptNewest, IsRegularNewest, IsServedNewest, IsTicketWord, Leave, Me, NoneLater, Nothing, Owns, Page, PlacedNewest, Poll, Ruled, Shared, State, TellsAsk, TellsLeave, TellsPoll, TicksNewest, View, ViewIsBehind, Waits, abort_count, admissions_of, arrivals, asks, asks_after, at_set, by_core, claim_of, dec_lt, granted, high, keeps, leaves, leaves_after, lock, low, on_resource, opening_count, page_admissions, page_has_acted, page_with, page_with_ask, page_with_leave, page_with_poll, queue, set_else, set_here, step, stepped, ticket_of, with_pages}
 use Rattle.std.proofs.Common.{◌==◌, ◌≡◌, ◌≢◌, ◌⊎◌, ◌+◌, ◌*◌, ◌%◌, ◌^◌, ◌-◌, ◌<◌, ◌≤◌, ◌∷◌, ◌∙◌, true≢false}
-use native.Mathlib.Decide.{dec_lt}
-use Rattle.atomic_table.specs.Table.{State, Me, step, keeps, stepped, Allows}
-use Rattle.atomic_table.proofs.Lists.{at_set, set_here, set_else}
-use Rattle.msrp_board.specs.declared.books.Entry.{Entry}
-use Rattle.msrp_board.specs.declared.pages.Page.{Page}
-use Rattle.msrp_board.specs.declared.pages.View.{View}
-use Rattle.msrp_board.specs.declared.books.BoardSize.{BoardSize}
-use Rattle.msrp_board.specs.Books.{on_resource, IsBefore, admissions_of, AreBefore}
-use Rattle.msrp_board.specs.History.{Event, by_core}
-use Rattle.msrp_board.specs.Inside.Newest.{lock, asks, leaves, asks_after, leaves_after, queue, granted, PlacedNewest, ticket_of, claim_of, IsClaimInTurn, IsRegularNewest, TicksNewest, NoneLater}
-use Rattle.msrp_board.specs.Boards.{opening_count, abort_count}
-use Rattle.msrp_board.specs.Words.{high, low}
-use Rattle.msrp_board.specs.Inside.Rule.{page_has_acted, page_with, arrivals, page_admissions, HasConductor, Gathered, HasPage, Owns, Shared, IsTicketWord, IsServedNewest, IsKeptNewest, Ruled, HasOnly, page_with_ask, with_pages, page_with_poll, page_with_leave, ViewIsBehind, TellsAsk, TellsPoll, TellsLeave}
-use Rattle.msrp_board.specs.declared.held.Claim.{Claim}
-use Rattle.msrp_board.specs.declared.held.Claim.TheVariants.{Nothing, Waits, Holds}
 use Rattle.msrp_board.proofs.Queue.{at_first, among, not_among, not_first, Coupled, coupled, ticket, held, by_same, by_other, by_cases, in_range}
 use Rattle.msrp_board.proofs.Counts.{at, pick, claim_on, on_same, on_other, total_more, total_bound, ticks_length, arrivals_set}
 use Rattle.msrp_board.proofs.Sharing.{same_shared}
 use Rattle.msrp_board.proofs.CoreStates.{each_some, each_at}
 use Rattle.msrp_board.proofs.Kept.{kept_more, fresh_page}
 use Rattle.msrp_board.proofs.Sorted.{insert, inserted}
-use Rattle.msrp_board.specs.declared.books.Conductor.{Conductor}
 
 steps_more : (k : Call) (h : List Event) (r : Event) → asks h + leaves h ≤ length h → asks_after (asks h) k + leaves_after (leaves h) k ≤ length (r ∷ h)
 steps_more (Ask a) h r q = omega (arith, q)

@@ -1,7 +1,6 @@
 use Rattle.std.proofs.Common.{◌<◌, ◌∙◌}
 use Rattle.msrp_plan.proofs.Common.{sym, ap, subst}
-use Rattle.msrp_plan.specs.declared.units.Phase.TheVariants.{Free}
-use Rattle.msrp_board.specs.Seats.{BoardModel, SeatModel}
+use Rattle.msrp_board.proofs.Common.{BoardModel, Free, SeatModel}
 use Rattle.msrp_board.proofs.Seats.{acting, free_claim, entered_held, entered_seen, entered_behind}
 use Rattle.msrp_board.proofs.board.Board.ask.Goals as goal
 

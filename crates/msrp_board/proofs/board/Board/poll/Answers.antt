@@ -1,11 +1,6 @@
 use Rattle.std.proofs.Common.{◌+◌, ◌<◌, ◌==◌, ◌∙◌, ◌≡◌}
 use Rattle.msrp_plan.proofs.Common.{refl, sym, ap, subst}
-use Rattle.msrp_plan.specs.declared.ids.ResId.{ResId}
-use Rattle.msrp_plan.specs.declared.units.Call.TheVariants.{Poll}
-use Rattle.msrp_plan.specs.declared.units.Phase.TheVariants.{Queued}
-use Rattle.msrp_board.specs.declared.books.BoardSize.{BoardSize}
-use Rattle.msrp_board.specs.Seats.{BoardModel, SeatModel}
-use Rattle.msrp_board.specs.Steps.{with_entry, IsBehind}
+use Rattle.msrp_board.proofs.Common.{BoardModel, BoardSize, IsBehind, Poll, Queued, ResId, SeatModel, with_entry}
 use Rattle.msrp_board.proofs.Seats.{acting, claiming, waits_state, waits_res, entered_held, entered_seen, entered_behind}
 use Rattle.msrp_board.proofs.board.Board.poll.Goals as goal
 
