@@ -1,7 +1,7 @@
 -- What a board keeps newest first, read oldest first: its histories, and its books.
 use Rattle.msrp_plan.proofs.Common.{ℕ, List, [], reverse, Bool, true, false, cond, fold, refl, sym, ap, subst, arith, append-nil, count_by, AllByRecursion, sum_by-append, sum_by-cons, FifoLock, free_lock, lock_after, Answers, Legal, ResCall, claim_with, IsDueCall, lock_from}
-use Rattle.msrp_board.proofs.Common.{Ask, Call, Claim, Entry, Event, Free, IsChain, IsClaimInTurn, IsHistory, IsNotLater, IsPollAfter, IsRegularNewest, Leave, LegalNewest, NoneLater, OnTrue, Phase, Placed, PlacedNewest, Poll, PollsInOrder, PollsNewest, RisingNewest, TicksNewest, ToNext, are_polls, asks, asks_after, by_core, calls, claim_of, is_poll, is_release, is_request, leaves, leaves_after, lock, on_resource, phase_of, place_after, res_calls}
-use Rattle.std.proofs.Common.{◌==◌, ◌≡◌, ◌+◌, ◌<◌, ◌≤◌, ◌∷◌, ◌++◌, ◌∙◌, true≢false}
+use Rattle.msrp_board.proofs.Common.{Ask, Call, Claim, Entry, Event, Free, IsChain, IsClaimInTurn, IsHistory, IsNotLater, IsPollAfter, IsRegularNewest, Leave, LegalNewest, NoneLater, OnTrue, Phase, Placed, PlacedNewest, Poll, PollsInOrder, PollsNewest, RisingNewest, TicksNewest, ToNext, asks, asks_after, by_core, calls, claim_of, is_poll, is_release, is_request, leaves, leaves_after, lock, on_resource, phase_of, place_after, res_calls}
+use Rattle.std.proofs.Common.{◌&&◌, ◌==◌, ◌≡◌, ◌+◌, ◌<◌, ◌≤◌, ◌∷◌, ◌++◌, ◌∙◌, true≢false}
 use Rattle.msrp_plan.specs.Calls.{IsRegularFrom, IsRegular}
 use Rattle.msrp_board.proofs.Lists.{reverse_cons, fold_last, all_reversed, filter_reversed, chain_reversed}
 use Rattle.msrp_board.proofs.Told.{lock_newest, res_calls_newest}
@@ -85,7 +85,7 @@ rising_reversed h r = chain_reversed IsNotLater h (newest h r)
     newest [] r = tt
     newest (s ∷ k) r = (next_is s.1.tick s k refl r.1, newest k r.0)
 
-both_polls : (k j : Call) → is_poll j ≡ true → is_poll k ≡ true → are_polls k j ≡ true
+both_polls : (k j : Call) → is_poll j ≡ true → is_poll k ≡ true → (is_poll k && is_poll j) ≡ true
 both_polls (Poll b) (Poll d) e f = refl
 both_polls (Ask n) j e f = absurd (true≢false (sym f))
 both_polls Leave j e f = absurd (true≢false (sym f))
@@ -101,7 +101,7 @@ polls_reversed h t = chain_reversed PollsInOrder h (newest h t)
   where
     next_is : (s : Event) (k : List Event) → IsPollAfter s k → ToNext (λ x y. PollsInOrder y x) s k
     next_is s [] a = tt
-    next_is s (x ∷ k) a = λ e f. on_true (are_polls s.1.call x.1.call) _ (both_polls s.1.call x.1.call e f) a
+    next_is s (x ∷ k) a = λ e f. on_true (is_poll s.1.call && is_poll x.1.call) _ (both_polls s.1.call x.1.call e f) a
 
     newest : (k : List Event) → PollsNewest k → IsChain (λ x y. PollsInOrder y x) k
     newest [] t = tt

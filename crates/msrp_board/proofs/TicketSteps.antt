@@ -1,6 +1,6 @@
 -- A request, a poll and a release keep the rule.
 use Rattle.msrp_plan.proofs.Common.{eq-eqb, ne_eqb, inl, inr, ⊎_elim, ℕ, zero, suc, List, [], length, set, Some, Bool, true, false, refl, sym, ap, subst, arith, slice_index, some, none, some-injective, some-ne-none, dite, ℕ_discrete, get_elem?, mul-le, mod-mul-add, div-mul-add, length-set, get_or-set_same, get_or-set_other, Answers, IsAmong, IsFirst}
-use Rattle.msrp_board.proofs.Common.{Allows, AreBefore, Ask, BoardSize, Call, Claim, Conductor, Entry, Event, Gathered, HasConductor, HasOnly, HasPage, Holds, IsBefore, IsClaimInTurn, IsKeptNewest, IsRegularNewest, IsServedNewest, IsTicketWord, Leave, Me, NoneLater, Nothing, Owns, Page, PlacedNewest, Poll, Ruled, Shared, State, TellsAsk, TellsLeave, TellsPoll, TicksNewest, View, ViewIsBehind, Waits, abort_count, admissions_of, arrivals, asks, asks_after, at_set, by_core, claim_of, dec_lt, granted, high, keeps, leaves, leaves_after, lock, low, on_resource, opening_count, page_admissions, page_has_acted, page_with, page_with_ask, page_with_leave, page_with_poll, queue, set_else, set_here, step, stepped, ticket_of, with_pages}
+use Rattle.msrp_board.proofs.Common.{Allows, AreBefore, Ask, BoardSize, Call, Claim, Conductor, Entry, Event, Gathered, HasConductor, HasOnly, HasPage, Holds, IsBefore, IsClaimInTurn, IsKeptNewest, IsRegularNewest, IsServedNewest, IsTicketWord, Leave, Me, NoneLater, Nothing, Owns, Page, PlacedNewest, Poll, Ruled, Shared, State, Tells, TicksNewest, View, ViewIsBehind, Waits, abort_count, admissions_of, arrivals, asks, asks_after, at_set, by_core, claim_of, dec_lt, granted, high, keeps, leaves, leaves_after, lock, low, on_resource, opening_count, page_admissions, page_has_acted, page_with, page_with_ask, page_with_leave, page_with_poll, queue, set_else, set_here, step, stepped, ticket_of, with_pages}
 use Rattle.std.proofs.Common.{◌==◌, ◌≡◌, ◌≢◌, ◌⊎◌, ◌+◌, ◌*◌, ◌%◌, ◌^◌, ◌-◌, ◌<◌, ◌≤◌, ◌∷◌, ◌∙◌, true≢false}
 use Rattle.msrp_board.proofs.Queue.{at_first, among, not_among, not_first, Coupled, coupled, ticket, held, by_same, by_other, by_cases, in_range}
 use Rattle.msrp_board.proofs.Counts.{at, pick, claim_on, on_same, on_other, total_more, total_bound, ticks_length, arrivals_set}
@@ -281,7 +281,7 @@ unacted : (z : BoardSize) (id c : ℕ) (v : View) (b : Page) (s : State (Unit {0
 unacted z id c v b s r at_id sole room quiet = fresh_page z b (r.tied.kept c b (r.shared.true_of id c b (v, at_id, sole.page))) room quiet
 
 pub asks_allowed : (z : BoardSize) (slots id : ℕ) (me : Me (Unit {0}) View) (g c : ℕ) (b : Page) → g < z.resources → HasOnly me.0 c b → b.admitted ≡ true → page_has_acted b ≡ false → claim_of b.newest ≡ Nothing
-    → Allows (Ruled z) slots id me g (λ n. (n + 4294967296) % 2 ^ 64) (TellsAsk (step slots g 4294967296 0 none) me)
+    → Allows (Ruled z) slots id me g (λ n. (n + 4294967296) % 2 ^ 64) (Tells page_with_ask (step slots g 4294967296 0 none) me)
 asks_allowed z slots id me g c b in_g sole room quiet free s r _ at_id fits =
     let fresh = unacted z id c me.0 b s r at_id sole room quiet in
     let n = slice_index s.words g in
@@ -315,7 +315,7 @@ not_held h c g t k is first false e = refl
 not_held h c g t k is first true e = let y = k.holder e in absurd (true≢false (sym y.2 ∙ ap (λ d. held (claim_of (by_core d h))) (some-injective y.0 c (sym y.1 ∙ first)) ∙ ap held is))
 
 pub polls_allowed : (z : BoardSize) (slots id : ℕ) (me : Me (Unit {0}) View) (g c t : ℕ) (b : Page) → g < z.resources → HasOnly me.0 c b → b.admitted ≡ true → page_has_acted b ≡ false → claim_of b.newest ≡ Waits g t
-    → Allows (Ruled z) slots id me g (λ n. n) (TellsPoll (step slots g 0 0 none) me)
+    → Allows (Ruled z) slots id me g (λ n. n) (Tells page_with_poll (step slots g 0 0 none) me)
 polls_allowed z slots id me g c t b in_g sole room quiet waits s r _ at_id fits =
     let fresh = unacted z id c me.0 b s r at_id sole room quiet in
     let n = slice_index s.words g in
@@ -341,7 +341,7 @@ polls_allowed z slots id me g c t b in_g sole room quiet waits s r _ at_id fits 
         where_is = k.queue_of.stands c t (ap ticket mine)
 
 pub leaves_allowed : (z : BoardSize) (slots id : ℕ) (me : Me (Unit {0}) View) (g c t : ℕ) (b : Page) → g < z.resources → HasOnly me.0 c b → b.admitted ≡ true → page_has_acted b ≡ false → claim_of b.newest ≡ Holds g t
-    → Allows (Ruled z) slots id me g (λ n. (n + 1) % 2 ^ 64) (TellsLeave (step slots g 1 0 none) me)
+    → Allows (Ruled z) slots id me g (λ n. (n + 1) % 2 ^ 64) (Tells page_with_leave (step slots g 1 0 none) me)
 leaves_allowed z slots id me g c t b in_g sole room quiet holds s r _ at_id fits =
     let fresh = unacted z id c me.0 b s r at_id sole room quiet in
     let n = slice_index s.words g in

@@ -1,15 +1,7 @@
 -- What callers see of a board and a seat, what holds of every seat, and what each call requires.
 use Rattle.std.specs.Prelude.{◌≡◌, ◌<◌, ◌⊎◌}
 use Rattle.msrp_plan.specs.Common.{ℕ, List, [], false, replicate, Some, None, IsSome, slice_index_or}
-use Rattle.msrp_plan.specs.declared.units.Phase.{Phase}
-use Rattle.std.specs.declared.option.Option.{Option}
-use Rattle.atomic_table.specs.Seated.{TableId}
-use Rattle.msrp_board.specs.declared.answers.SeatPhase.{SeatPhase}
-use Rattle.msrp_board.specs.declared.answers.SeatPhase.TheVariants.{Admitted}
-use Rattle.msrp_board.specs.declared.books.Book.{Book}
-use Rattle.msrp_board.specs.declared.books.BoardSize.{BoardSize}
-use Rattle.msrp_board.specs.declared.books.Conductor.{Conductor}
-use Rattle.msrp_board.specs.declared.books.Conductor.TheVariants.{Unopened}
+use Rattle.msrp_board.specs.Common.{Admitted, BoardSize, Book, Conductor, Option, Phase, SeatPhase, TableId, Unopened}
 use Rattle.msrp_board.specs.Books.{IsSize, lock_of, has_acted, phase_in, IsKept}
 
 -- the identity of a board, and its size

@@ -1,29 +1,23 @@
 -- A board's entries, the newest first, so that adding one is one step; callers see them oldest
 -- first. A definition that ends in `Newest` is that of `Books` or `History`, of the reversed list.
-use Rattle.std.specs.Prelude.{◌≡◌, ◌+◌, ◌/◌, ◌<◌, ◌≤◌, ◌∷◌, ◌⊎◌}
+use Rattle.std.specs.Prelude.{◌≡◌, ◌+◌, ◌/◌, ◌<◌, ◌≤◌, ◌∷◌, ◌⊎◌, ◌&&◌}
 use Rattle.msrp_plan.specs.Common.{ℕ, zero, suc, List, [], Bool, true, false, ⊤, FifoLock, Answers}
-use Rattle.msrp_plan.specs.declared.units.Call.{Call}
-use Rattle.msrp_plan.specs.declared.units.Call.TheVariants.{Ask, Poll, Leave}
+use Rattle.msrp_board.specs.Common.{Ask, Call, Claim, Entry, Holds, Leave, Nothing, Poll, Waits}
 use Rattle.std.specs.Bool.{OnTrue}
 use Rattle.msrp_plan.specs.FifoLock.{queue_after, granted_after}
-use Rattle.msrp_board.specs.declared.books.Entry.{Entry}
-use Rattle.msrp_board.specs.declared.held.Claim.{Claim}
-use Rattle.msrp_board.specs.declared.held.Claim.TheVariants.{Nothing, Waits, Holds}
-use Rattle.msrp_board.specs.History.{Event}
+use Rattle.msrp_board.specs.History.{Event, is_poll}
 
 -- ---- the history of a resource
 
 -- one more request, if the call is one
 abbrev pub asks_after : ℕ → Call → ℕ
 asks_after n (Ask a) = suc n
-asks_after n (Poll p) = n
-asks_after n Leave = n
+asks_after n _ = n
 
 -- one more release, if the call is one
 abbrev pub leaves_after : ℕ → Call → ℕ
-leaves_after n (Ask a) = n
-leaves_after n (Poll p) = n
 leaves_after n Leave = suc n
+leaves_after n _ = n
 
 -- the number of requests
 abbrev pub asks : List Event → ℕ
@@ -69,18 +63,10 @@ abbrev pub RisingNewest : List Event → Type 0
 RisingNewest [] = ⊤
 RisingNewest (r ∷ h) = RisingNewest h × NoneLater r.1.tick h
 
--- both are polls
-abbrev pub are_polls : Call → Call → Bool
-are_polls (Ask a) k = false
-are_polls (Poll p) (Ask a) = false
-are_polls (Poll p) (Poll q) = true
-are_polls (Poll p) Leave = false
-are_polls Leave k = false
-
 -- if r and the event before it are polls, r is of a later tick, or of the same and of no lower core
 abbrev pub IsPollAfter : Event → List Event → Type 0
 IsPollAfter r [] = ⊤
-IsPollAfter r (x ∷ h) = OnTrue (are_polls r.1.call x.1.call) ((x.1.tick < r.1.tick) ⊎ ((x.1.tick ≡ r.1.tick) × (x.0 ≤ r.0)))
+IsPollAfter r (x ∷ h) = OnTrue (is_poll r.1.call && is_poll x.1.call) ((x.1.tick < r.1.tick) ⊎ ((x.1.tick ≡ r.1.tick) × (x.0 ≤ r.0)))
 
 -- adjacent polls are by tick, then core
 abbrev pub PollsNewest : List Event → Type 0

@@ -1,19 +1,7 @@
 -- The rule of a board's words: what holds of the words and all books, and what each step promises.
 use Rattle.msrp_plan.specs.Common.{ℕ, suc, List, [], length, map, Bool, true, false, Some, None, replicate, slice_index, list_any, AllByRecursion}
-use Rattle.msrp_plan.specs.declared.units.Call.{Call}
-use Rattle.msrp_plan.specs.declared.units.Call.TheVariants.{Ask, Poll, Leave}
+use Rattle.msrp_board.specs.Common.{Aborted, Ask, BoardSize, Call, Claim, Conductor, Entry, Leave, Me, Opened, Page, Poll, State, Step, Unopened, View, get_elem?, option_map, some}
 use Rattle.std.specs.Prelude.{◌≡◌, ◌==◌, ◌+◌, ◌*◌, ◌-◌, ◌^◌, ◌<◌, ◌≤◌, ◌∷◌, ltb, leb}
-use Rattle.std.specs.Option.{option_map}
-use mathlib.Core.Option.{some}
-use lib.ListN.{get_elem?}
-use Rattle.atomic_table.specs.Table.{State, Me, Step}
-use Rattle.msrp_board.specs.declared.books.Entry.{Entry}
-use Rattle.msrp_board.specs.declared.books.Conductor.{Conductor}
-use Rattle.msrp_board.specs.declared.books.Conductor.TheVariants.{Unopened, Opened, Aborted}
-use Rattle.msrp_board.specs.declared.books.BoardSize.{BoardSize}
-use Rattle.msrp_board.specs.declared.held.Claim.{Claim}
-use Rattle.msrp_board.specs.declared.pages.Page.{Page}
-use Rattle.msrp_board.specs.declared.pages.View.{View}
 use Rattle.msrp_board.specs.declared.words.TicketWord.{TicketWord}
 use Rattle.msrp_board.specs.Boards.{opening_count, abort_count}
 use Rattle.msrp_board.specs.Words.{high, low, half_word}
@@ -201,18 +189,6 @@ pub record Tells (f : ℕ → ℕ → Page → Page) (st : Step (Unit {0})) (me 
   pub small : high n + low n < 2 ^ 32
   pub behind : ViewIsBehind me.0 st.word (high n + low n)
 
--- what a request promises
-abbrev pub TellsAsk : Step (Unit {0}) → Me (Unit {0}) View → ℕ → Me (Unit {0}) View → Type 0
-TellsAsk = Tells page_with_ask
-
--- what a poll promises
-abbrev pub TellsPoll : Step (Unit {0}) → Me (Unit {0}) View → ℕ → Me (Unit {0}) View → Type 0
-TellsPoll = Tells page_with_poll
-
--- what a release promises
-abbrev pub TellsLeave : Step (Unit {0}) → Me (Unit {0}) View → ℕ → Me (Unit {0}) View → Type 0
-TellsLeave = Tells page_with_leave
-
 -- what holds of each ticket word
 pub record IsTicket (word : TicketWord) : Type 0 where
   pub order : word.serving ≤ word.next
@@ -281,10 +257,6 @@ TellsRule z st me n now = IsUnderRule z me now
 abbrev pub view_with_conductor : Conductor → View → View
 view_with_conductor o v = record { pages = v.pages; conductor = Some o }
 
--- what the opening promises
-abbrev pub TellsOpening : Step (Unit {0}) → Me (Unit {0}) View → ℕ → Me (Unit {0}) View → Type 0
-TellsOpening st me n now = now ≡ (view_with_conductor Opened me.0, me.1)
-
--- what an abort promises
-abbrev pub TellsAbort : Step (Unit {0}) → Me (Unit {0}) View → ℕ → Me (Unit {0}) View → Type 0
-TellsAbort st me n now = now ≡ (view_with_conductor Aborted me.0, me.1)
+-- what the opening and the abort promise
+abbrev pub TellsConductor : Conductor → Step (Unit {0}) → Me (Unit {0}) View → ℕ → Me (Unit {0}) View → Type 0
+TellsConductor o st me n now = now ≡ (view_with_conductor o me.0, me.1)
