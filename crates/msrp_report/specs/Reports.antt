@@ -1,7 +1,7 @@
 -- A report while rows arrive.
 use Rattle.std.specs.Prelude.{◌≡◌, ◌≤◌, ◌+◌, ◌++◌, ◌∷◌}
 use Rattle.msrp_plan.specs.Common.{ℕ, List, None, length, vec_capacity, [], fault_in, IsPlan}
-use Rattle.msrp_plan.specs.declared.rows.Row.{Row}
+use Rattle.msrp_report.specs.Common.{Row}
 use Rattle.msrp_report.specs.Inside.Tallies.{HasTallied}
 use Rattle.msrp_report.specs.declared.counter.Counter.{Counter}
 
