@@ -1,10 +1,7 @@
 use Rattle.std.proofs.Common.{◌∙◌}
 use Rattle.msrp_plan.proofs.Common.{ap, refl, Some, sym, allows}
-use Rattle.msrp_plan.specs.declared.rows.Kind.TheVariants.{Release}
-use Rattle.msrp_plan.specs.declared.units.Phase.TheVariants.{Free}
+use Rattle.msrp_core.proofs.Common.{Free, Jobs, Release, is_waiting_phase}
 use Rattle.msrp_plan.specs.declared.units.Op.TheVariants.{Unlock as UnlockUnit}
-use Rattle.msrp_core.specs.Active.{is_waiting_phase}
-use Rattle.msrp_core.specs.declared.jobs.Jobs.{Jobs}
 use Rattle.msrp_core.proofs.Acting.{dropping, is_innermost, last_by, same_here, still_of_core, still_current, still_running, unit_acts, unlocks}
 use Rattle.msrp_core.proofs.jobs.Jobs.drop_held.Goals as goal
 

@@ -2,8 +2,7 @@ use Rattle.std.proofs.Common.{◌∙◌}
 use Rattle.msrp_plan.proofs.Common.{ap, refl, Some, sym, allows}
 use Rattle.msrp_plan.specs.declared.rows.Kind.TheVariants.{Unlock}
 use Rattle.msrp_plan.specs.declared.units.Op.TheVariants.{Unlock as UnlockUnit}
-use Rattle.msrp_core.specs.Active.{is_waiting_phase}
-use Rattle.msrp_core.specs.declared.jobs.Jobs.{Jobs}
+use Rattle.msrp_core.proofs.Common.{Jobs, is_waiting_phase}
 use Rattle.msrp_core.proofs.Acting.{is_innermost, last_by, same_here, still_of_core, still_current, still_running, unit_acts, unlocking, unlocks}
 use Rattle.msrp_core.proofs.jobs.Jobs.unlock.Goals as goal
 
