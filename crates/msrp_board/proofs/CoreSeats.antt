@@ -63,7 +63,7 @@ pub is_in : (seat : SeatModel) (phase : SeatPhase) → HasCore seat → ((c : �
 is_in seat phase s reads = record { core = s.0; book = s.1; of_core = s.2; stands = sym (reads s.0 s.1 s.2) }
 
 pub may_act : (seat : SeatModel) (lock : Phase) → IsFresh seat → ((c : ℕ) (b : Book) → IsCoreSeat seat c b → lock ≡ lock_of b) → MayAct lock seat
-may_act seat lock fresh reads = let m = fresh.1 in record { core = m.core; book = m.book; of_core = m.of_core; stands = m.stands; quiet = m.quiet; claims = sym (reads m.core m.book m.of_core) }
+may_act seat lock fresh reads = let m = fresh.1 in record { at = m.at; quiet = m.quiet; claims = sym (reads m.at.core m.at.book m.at.of_core) }
 
 -- ---- what follows from what every book keeps
 
@@ -102,10 +102,12 @@ fresh_after_go old new kept at is =
     subst IsFresh (sym is) (
       lock_of at.book,
       record {
-        core = at.core;
-        book = book_with_admission at.book;
-        of_core = core_changed book_with_admission old at.core at.book at.of_core;
-        stands = ap (λ x. phase_by x true (nat_lt at.book.tick old.board.size.ticks)) out.0;
+        at = record {
+          core = at.core;
+          book = book_with_admission at.book;
+          of_core = core_changed book_with_admission old at.core at.book at.of_core;
+          stands = ap (λ x. phase_by x true (nat_lt at.book.tick old.board.size.ticks)) out.0;
+        };
         quiet = not_acted old.board.size at.book (kept.kept at.core at.book at.of_core.book) out.1;
         claims = refl;
       },

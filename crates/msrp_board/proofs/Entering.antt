@@ -21,6 +21,6 @@ entered_by call g me now word n is changed behind = record {
 pub poll_entered : (slots g a ticket : ℕ) (me now : Me (Unit {0}) View) (word : TicketWord) (n : ℕ) → IsHalves word n → ViewMayAct me.0 (Waits g ticket) → Tells page_with_poll (step slots g a 0 none) me n now
     → HasEntered g (word.next + word.serving) (Poll (word.serving == ticket)) me now
 poll_entered slots g a ticket me now word n is may t = entered_by (λ h l. Poll (l == ticket)) g me now word n is
-    (t.changed ∙ ap (λ (w : View). (w, me.1)) (sole_change me.0 may.core may.page (page_with_poll g n) (page_with_entry g (high n + low n) (Poll (low n == ticket))) may.has
-    (ap (λ k. page_with_entry g (high n + low n) (Poll (low n == k)) may.page) (ap ticket_of may.claims))))
+    (t.changed ∙ ap (λ (w : View). (w, me.1)) (sole_change me.0 may.at.core may.at.page (page_with_poll g n) (page_with_entry g (high n + low n) (Poll (low n == ticket))) may.at.has
+    (ap (λ k. page_with_entry g (high n + low n) (Poll (low n == k)) may.at.page) (ap ticket_of may.claims))))
     t.behind

@@ -33,10 +33,7 @@ port_acts board c k seat lock p room claims =
     let same = port_core board c k seat p room in
     let own = ap (port_room seat) same ∙ room_own board c seat p in
     record {
-      core = c;
-      book = p.book;
-      of_core = p.of_core;
-      stands = p.stands;
+      at = record { core = c; book = p.book; of_core = p.of_core; stands = p.stands };
       quiet = quiet_of Admitted (has_acted p.book) (omega (arith, room, own));
       claims = sym (ap (λ o. claim_after (calls_in o)) p.of_core.book) ∙ ap (λ j. claim_after (port_calls seat j)) (sym same) ∙ claims;
     }

@@ -63,15 +63,15 @@ pub record Acting (z : BoardSize) (held : States) (v : View) (lock : Phase) : Ty
 pub acting : (z : BoardSize) (t : TableId) (held : States) (o : Option Conductor) (me : Me (Unit {0}) View) (seat : SeatModel) (lock : Phase) → IsHeld z held o me → seen_as (named t z) me.0 ≡ seat → MayAct lock seat → Acting z held me.0 lock
 acting z t held o me seat lock s is may =
     let h : MayAct lock (seen_as (named t z) me.0) = subst (MayAct lock) (sym is) may in
-    let r = core_own z t held o me (seen_as (named t z) me.0) s refl h.core h.book h.of_core in
+    let r = core_own z t held o me (seen_as (named t z) me.0) s refl h.at.core h.at.book h.at.of_core in
     record {
-      core = h.core;
+      core = h.at.core;
       page = r.0;
       own = r.1;
-      room = (admitted_of r.0.stopped r.0.admitted (nat_lt r.0.tick z.ticks) (ap (phase_in z.ticks) r.2 ∙ h.stands)).1;
+      room = (admitted_of r.0.stopped r.0.admitted (nat_lt r.0.tick z.ticks) (ap (phase_in z.ticks) r.2 ∙ h.at.stands)).1;
       quiet = sym (acted_told r.0) ∙ ap has_acted r.2 ∙ h.quiet;
       claims = sym (lock_told r.0) ∙ ap lock_of r.2 ∙ h.claims;
-      kept = s.kept h.core r.0 r.1.only.page;
+      kept = s.kept h.at.core r.0 r.1.only.page;
     }
 
 -- the page of a core's seat that may act, where the state kept of the core is x, with the claim l

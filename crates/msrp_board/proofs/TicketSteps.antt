@@ -1,6 +1,6 @@
 -- A request, a poll and a release keep the rule.
-use Rattle.msrp_plan.proofs.Common.{eq-eqb, ne_eqb, inl, inr, ⊎_elim, ℕ, zero, suc, List, [], length, set, Some, Bool, true, false, refl, sym, ap, subst, arith, slice_index, some, none, some-injective, some-ne-none, dite, ℕ_discrete, get_elem?, mul-le, mod-mul-add, div-mul-add, length-set, get_or-set_same, get_or-set_other, Answers, IsAmong, IsFirst}
-use Rattle.msrp_board.proofs.Common.{Allows, AreBefore, Ask, BoardSize, Call, Claim, Conductor, Entry, Event, Gathered, HasConductor, HasOnly, HasPage, Holds, IsBefore, IsClaimInTurn, IsKeptNewest, IsRegularNewest, IsServedNewest, IsTicketWord, Leave, Me, NoneLater, Nothing, Owns, Page, PlacedNewest, Poll, Ruled, Shared, State, Tells, TicksNewest, View, ViewIsBehind, Waits, abort_count, admissions_of, arrivals, asks, asks_after, at_set, by_core, claim_of, dec_lt, granted, high, keeps, leaves, leaves_after, lock, low, on_resource, opening_count, page_admissions, page_has_acted, page_with, page_with_ask, page_with_leave, page_with_poll, queue, set_else, set_here, step, stepped, ticket_of, with_pages}
+use Rattle.msrp_plan.proofs.Common.{cond, eq-eqb, ne_eqb, inl, inr, ⊎_elim, ℕ, zero, suc, List, [], length, set, Some, Bool, true, false, refl, sym, ap, subst, arith, slice_index, some, none, some-injective, some-ne-none, dite, ℕ_discrete, get_elem?, mul-le, mod-mul-add, div-mul-add, length-set, get_or-set_same, get_or-set_other, Answers, IsAmong, IsFirst, AllByRecursion}
+use Rattle.msrp_board.proofs.Common.{Allows, AreBefore, Ask, BoardSize, Call, Claim, Conductor, Entry, Event, Gathered, HasConductor, HasOnly, HasPage, Holds, IsBefore, IsClaimInTurn, IsKeptNewest, IsRegularNewest, IsServedNewest, IsTicketWord, Leave, Me, NoneLater, Nothing, Owns, Page, PlacedNewest, Poll, Ruled, Shared, State, Tells, TicksNewest, View, ViewIsBehind, Waits, abort_count, admissions_of, arrivals, asks, at_set, by_core, claim_of, dec_lt, granted, high, is_release, is_request, keeps, leaves, lock, low, on_resource, opening_count, page_admissions, page_has_acted, page_with, page_with_ask, page_with_leave, page_with_poll, queue, set_else, set_here, step, stepped, ticket_of, with_pages}
 use Rattle.std.proofs.Common.{◌==◌, ◌≡◌, ◌≢◌, ◌⊎◌, ◌+◌, ◌*◌, ◌%◌, ◌^◌, ◌-◌, ◌<◌, ◌≤◌, ◌∷◌, ◌∙◌, true≢false}
 use Rattle.msrp_board.proofs.Queue.{at_first, among, not_among, not_first, Coupled, coupled, ticket, held, by_same, by_other, by_cases, in_range}
 use Rattle.msrp_board.proofs.Counts.{at, pick, claim_on, on_same, on_other, total_more, total_bound, ticks_length, arrivals_set}
@@ -9,7 +9,7 @@ use Rattle.msrp_board.proofs.CoreStates.{each_some, each_at}
 use Rattle.msrp_board.proofs.Kept.{kept_more, fresh_page}
 use Rattle.msrp_board.proofs.Sorted.{insert, inserted}
 
-steps_more : (k : Call) (h : List Event) (r : Event) → asks h + leaves h ≤ length h → asks_after (asks h) k + leaves_after (leaves h) k ≤ length (r ∷ h)
+steps_more : (k : Call) (h : List Event) (r : Event) → asks h + leaves h ≤ length h → cond (is_request k) (suc (asks h)) (asks h) + cond (is_release k) (suc (leaves h)) (leaves h) ≤ length (r ∷ h)
 steps_more (Ask a) h r q = omega (arith, q)
 steps_more (Poll p) h r q = omega (arith, q)
 steps_more Leave h r q = omega (arith, q)
@@ -139,8 +139,7 @@ gathered_same n c books b d o has tick adm stop g = record {
         (at_set books c x d y h)
 
 abbrev EachUpTo : ℕ → List Entry → Type 0
-EachUpTo t [] = Unit {0}
-EachUpTo t (e ∷ es) = (e.tick ≤ t) × EachUpTo t es
+EachUpTo t es = AllByRecursion (λ e. e.tick ≤ t) es
 
 -- no entry of g is later than the tick to which a core is admitted
 ticks_on : (t r g : ℕ) (es : List Entry) → TicksNewest r es → r ≤ suc t → EachUpTo t (on_resource g es)
@@ -206,7 +205,7 @@ before_more p q (e ∷ es) h a = (one e.place e.call a.0, before_more p q es h a
     one x Leave b = omega (arith, b, h)
 
 before_one : (h : List Event) (c t g p : ℕ) (k : Call) → p ≡ asks h + leaves h → ((d : ℕ) → AreBefore (asks h + leaves h) (by_core d h))
-    → (d : ℕ) → AreBefore (asks_after (asks h) k + leaves_after (leaves h) k) (by_core d ((c, record { tick = t; res = record { 0 = g }; place = p; call = k }) ∷ h))
+    → (d : ℕ) → AreBefore (cond (is_request k) (suc (asks h)) (asks h) + cond (is_release k) (suc (leaves h)) (leaves h)) (by_core d ((c, record { tick = t; res = record { 0 = g }; place = p; call = k }) ∷ h))
 before_one h c t g p k is old d = by_cases c d new h (AreBefore now)
     (λ _. ((up k).1, before_more (asks h + leaves h) now (by_core d h) (up k).0 (old d)))
     (λ _. before_more (asks h + leaves h) now (by_core d h) (up k).0 (old d))
@@ -215,9 +214,9 @@ before_one h c t g p k is old d = by_cases c d new h (AreBefore now)
     new = record { tick = t; res = record { 0 = g }; place = p; call = k }
 
     now : ℕ
-    now = asks_after (asks h) k + leaves_after (leaves h) k
+    now = cond (is_request k) (suc (asks h)) (asks h) + cond (is_release k) (suc (leaves h)) (leaves h)
 
-    up : (j : Call) → (asks h + leaves h ≤ asks_after (asks h) j + leaves_after (leaves h) j) × IsBefore j p (asks_after (asks h) j + leaves_after (leaves h) j)
+    up : (j : Call) → (asks h + leaves h ≤ cond (is_request j) (suc (asks h)) (asks h) + cond (is_release j) (suc (leaves h)) (leaves h)) × IsBefore j p (cond (is_request j) (suc (asks h)) (asks h) + cond (is_release j) (suc (leaves h)) (leaves h))
     up (Ask a) = (omega arith, omega (arith, is))
     up (Poll a) = (omega arith, omega (arith, is))
     up Leave = (omega arith, omega (arith, is))

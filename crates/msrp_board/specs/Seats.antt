@@ -59,12 +59,9 @@ pub record IsIn (phase : SeatPhase) (seat : SeatModel) : Type 0 where
 
 -- a core's seat that is admitted to its tick, has not acted in it, and holds or awaits this
 pub record MayAct (lock : Phase) (seat : SeatModel) : Type 0 where
-  pub core : ℕ
-  pub book : Book
-  pub of_core : IsCoreSeat seat core book
-  pub stands : phase_in seat.board.size.ticks book ≡ Admitted
-  pub quiet : has_acted book ≡ false
-  pub claims : lock_of book ≡ lock
+  pub at : IsIn Admitted seat
+  pub quiet : has_acted at.book ≡ false
+  pub claims : lock_of at.book ≡ lock
 
 -- a core's seat that is admitted to its tick and has not acted in it, whatever it holds or awaits
 abbrev pub IsFresh : SeatModel → Type 0

@@ -126,14 +126,18 @@ pub record HasOnly (v : View) (c : ℕ) (b : Page) : Type 0 where
 abbrev pub page_has_acted : Page → Bool
 page_has_acted b = list_any (λ e. e.tick == b.tick) b.newest
 
--- a core's seat that may act, with this claim
-pub record ViewMayAct (v : View) (l : Claim) : Type 0 where
+-- a core's seat that is let into its tick
+pub record ViewIsAdmitted (v : View) : Type 0 where
   pub core : ℕ
   pub page : Page
   pub has : HasOnly v core page
-  pub claims : claim_of page.newest ≡ l
   pub admitted : page.admitted ≡ true
-  pub quiet : page_has_acted page ≡ false
+
+-- a core's seat that may act, with this claim
+pub record ViewMayAct (v : View) (l : Claim) : Type 0 where
+  pub at : ViewIsAdmitted v
+  pub claims : claim_of at.page.newest ≡ l
+  pub quiet : page_has_acted at.page ≡ false
 
 -- a core's seat that waits for its tick
 pub record ViewWaits (z : BoardSize) (v : View) : Type 0 where
@@ -142,13 +146,6 @@ pub record ViewWaits (z : BoardSize) (v : View) : Type 0 where
   pub has : HasOnly v core page
   pub out : page.admitted ≡ false
   pub left : page.tick < z.ticks
-
--- a core's seat that is let into its tick
-pub record ViewIsAdmitted (v : View) : Type 0 where
-  pub core : ℕ
-  pub page : Page
-  pub has : HasOnly v core page
-  pub admitted : page.admitted ≡ true
 
 -- ---- what each step makes of a page and of a view, and promises
 
