@@ -5,6 +5,7 @@ pub use Rattle.msrp_core.specs.CoreStates.{IsCoreState}
 pub use Rattle.msrp_core.specs.Machine.{IsRefused, MachineModel, RepeatsOnly, StandsAfter}
 pub use Rattle.msrp_core.specs.MachineView.{IsMachineView, Repeats, Spins, machine_view}
 pub use Rattle.msrp_core.specs.Repeats.{CanRepeat, HasWorkLeft, Polls, kind_again, row_again, spin_again, spin_of}
+pub use Rattle.msrp_core.specs.declared.actions.Action.{Action}
 pub use Rattle.msrp_core.specs.declared.jobs.Jobs.{Jobs}
 pub use Rattle.msrp_core.specs.declared.machine.Machine.TheInside.{Inside}
 pub use Rattle.msrp_core.specs.declared.repeats.Poll.{Poll}

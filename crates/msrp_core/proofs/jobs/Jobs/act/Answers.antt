@@ -1,6 +1,6 @@
 use Rattle.std.proofs.Common.{◌≡◌, ◌∙◌}
 use Rattle.msrp_plan.proofs.Common.{ap, sym, true, true≢false, same_Some, PlanModel, is_global}
-use Rattle.msrp_core.proofs.Common.{ResId}
+use Rattle.msrp_core.proofs.Common.{Action, ResId}
 use Rattle.msrp_plan.specs.declared.units.Op.TheVariants.{Lock as LockUnit, Unlock as UnlockUnit}
 use Rattle.msrp_core.proofs.Steps.{request_phase}
 use Rattle.msrp_core.proofs.Acting.{next_unit, unit_at, holds_at, unlock_local}
@@ -17,7 +17,7 @@ unlock-requires-clause-local g c = unlock_local c.args.self.now c.args.job c.in-
 
 pub returns-else-is_holding-clause-call : goal.returns-else-is_holding-clause-call
 returns-else-is_holding-clause-call g c = λ tick row is r e glob.
-    let same : r ≡ c.in-Unlock.res = same_Some r c.in-Unlock.res (sym e ∙ (is.res_is ∙ c.unlock.ensures.res)) in
+    let same : r ≡ c.in-Unlock.res = same_Some r c.in-Unlock.res (sym e ∙ (is.res_is ∙ ap (λ (a : Action). a.res) c.unlock.ensures.action)) in
     let t : is_global c.args.self.now.plan.now c.in-Unlock.res.0 ≡ true = ap (λ (x : ResId). is_global c.args.self.now.plan.now x.0) (sym same) ∙ glob in
     absurd (true≢false (sym t ∙ unlock_local c.args.self.now c.args.job c.in-Unlock.res (next_unit c.args.self.now c.args.job (UnlockUnit c.in-Unlock.res) c.in-Unlock.ensures) (sym c.is_holding.ensures ∙ c.if-is_holding.false)))
 

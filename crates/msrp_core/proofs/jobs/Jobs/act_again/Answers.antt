@@ -25,7 +25,7 @@ returns-in-Some-clause-acts c =
       others = subst (λ (j : Jobs). j ≡ record old { stack = j.stack; progress = j.progress; below = j.below; rising = j.rising; units = j.units }) (sym is) refl;
       current = subst IsCurrent (sym is) (record { rising = c.requires.jobs.current.rising; units = c.requires.jobs.current.units });
     })
-    (record { tick_is = c.row_on.ensures.tick; core_is = c.row_on.ensures.core; job_is = c.row_on.ensures.job; kind_is = c.row_on.ensures.kind; res_is = c.row_on.ensures.res })
+    (record { tick_is = c.row_on.ensures.tick_is; core_is = c.row_on.ensures.core_is; job_is = c.row_on.ensures.job_is; kind_is = c.row_on.ensures.kind_is; res_is = c.row_on.ensures.res_is })
     refl refl refl refl)
 
 pub returns-in-Some-clause-left : goal.returns-in-Some-clause-left
