@@ -200,10 +200,6 @@ pub record CountsAs (plan : PlanModel) (j : JobId) (at : ℕ) (k : Kind) (r : Ro
 abbrev pub GoesOn : PlanModel → Row → Tallies → Type 0
 GoesOn plan r t = (rows : List Row) × HasTallied plan rows t × IsRunStart plan (rows ++ r ∷ [])
 
--- a row of that tick follows
-abbrev pub Reaches : PlanModel → ℕ → Tallies → Type 0
-Reaches plan at t = (r : Row) × GoesOn plan r t × (r.tick ≡ at)
-
 -- the tallies include all rows
 abbrev pub ToldAll : PlanModel → Tallies → Type 0
 ToldAll plan t = (rows : List Row) × HasTallied plan rows t
