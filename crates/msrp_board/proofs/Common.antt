@@ -8,7 +8,7 @@ pub use Rattle.msrp_board.specs.Books.{AreBefore, IsBefore, IsChain, IsKept, IsS
 pub use Rattle.msrp_board.specs.History.{Event, IsHistory, IsNotLater, IsServed, Placed, PollsInOrder, by_core, calls, is_poll, is_release, is_request, place_after}
 pub use Rattle.msrp_board.specs.Inside.Held.{AreStates, IsBelow, IsHeld, IsOwn, IsWhole, Shows, kept_if, kept_of, look_if, look_of, page_at, phase_of, seen_as, settled_as, state_at, state_of, told, with_own}
 pub use Rattle.msrp_board.specs.Inside.Newest.{IsClaimInTurn, IsPollAfter, IsRegularNewest, LegalNewest, NoneLater, PlacedNewest, PollsNewest, RisingNewest, TicksNewest, asks, claim_of, claim_with_call, granted, leaves, lock, queue, ticket_at, ticket_of}
-pub use Rattle.msrp_board.specs.Inside.Rule.{AtStart, Gathered, HasConductor, HasEntered, HasOnly, HasPage, IsKeptNewest, IsServedNewest, IsTicketWord, IsTiedNewest, IsUnderRule, Owns, OwnsBy, Ruled, Shared, SharedBy, SharedConductor, Tells, TellsArrival, TellsConductor, TellsLook, TellsRule, ViewIsBehind, ViewMayAct, arrivals, empty_page, entry_count, first_view, page_admissions, page_after_look, page_after_look_if, page_has_acted, page_with, page_with_arrival, page_with_ask, page_with_entry, page_with_leave, page_with_poll, spent, view_alone, view_both, view_with_conductor, view_without, with_pages}
+pub use Rattle.msrp_board.specs.Inside.Rule.{AtStart, Gathered, HasConductor, HasEntered, HasOnly, HasPage, IsKeptNewest, IsServedNewest, IsTicketWord, IsTiedNewest, IsUnderRule, Owns, OwnsBy, Ruled, Shared, SharedBy, SharedConductor, Tells, TellsChange, TellsLook, TellsRule, ViewIsBehind, ViewMayAct, arrivals, empty_page, entry_count, first_view, page_admissions, page_after_look, page_after_look_if, page_has_acted, page_with, page_with_arrival, page_with_ask, page_with_entry, page_with_leave, page_with_poll, spent, view_alone, view_both, view_with_conductor, view_without, with_pages}
 pub use Rattle.msrp_board.specs.Seats.{BoardModel, HasAll, HasCore, IsCoreSeat, IsCoreSeatOn, IsFresh, IsIn, IsSeat, MayAct, SeatModel, book_at, empty_book, first_seat}
 pub use Rattle.msrp_board.specs.Steps.{IsBehind, alone, book_with_admission, book_with_entry, both, either, none_at, only_at, together, with_admission, with_books, with_entry, with_stop, without}
 pub use Rattle.msrp_board.specs.Words.{high, low, ticket_word}

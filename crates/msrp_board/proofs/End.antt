@@ -7,7 +7,8 @@ use Rattle.msrp_board.specs.Books.{admissions as book_admissions}
 use Rattle.msrp_board.proofs.CoreStates.{get_or_at, has_page, page_has, page_or_none}
 use Rattle.msrp_board.proofs.Counts.{total_bound, ticks_length}
 use Rattle.msrp_board.proofs.TicketSteps.{steps_length, split_word}
-use Rattle.msrp_board.proofs.BarrierSteps.{arrivals_bound, reach_high, bit}
+use Rattle.msrp_board.proofs.Arrivals.{arrivals_bound}
+use Rattle.msrp_board.proofs.BarrierSteps.{reach_high, bit}
 use Rattle.msrp_board.proofs.Reversed.{history_reversed, legal_reversed, requests_reversed, releases_reversed, rising_reversed}
 use Rattle.msrp_board.proofs.Kept.{kept_told}
 use Rattle.msrp_board.proofs.Told.{shown}

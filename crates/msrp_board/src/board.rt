@@ -264,18 +264,12 @@ impl Board {
             states,
             conductor,
         } = seat;
-        let BoardSeat {
-            table_seat: other_seat,
-            size: _,
-            states: other_states,
-            conductor: other_conductor,
-        } = other;
-        steps::join(&self.table.shared, &mut table_seat, other_seat);
+        steps::join(&self.table.shared, &mut table_seat, other.table_seat);
         BoardSeat {
             table_seat,
             size,
-            states: states.and(other_states),
-            conductor: conductor.or(other_conductor),
+            states: states.and(other.states),
+            conductor: conductor.or(other.conductor),
         }
     }
 

@@ -108,9 +108,9 @@ impl Join<View> for Both {
 pub(crate) struct Arrives;
 
 impl Play<(), View> for Arrives {
-    ghost use Rattle.msrp_board.specs.Inside.Rule.{TellsArrival};
+    ghost use Rattle.msrp_board.specs.Inside.Rule.{TellsChange, page_with_arrival, with_pages};
 
-    ghost then = { TellsArrival };
+    ghost then = { TellsChange (with_pages page_with_arrival) };
 }
 
 /// The step of a look, on a board of `N` cores.
@@ -140,9 +140,9 @@ pub(crate) struct Opens;
 
 impl Play<(), View> for Opens {
     ghost use Rattle.msrp_board.specs.Common.{Opened};
-    ghost use Rattle.msrp_board.specs.Inside.Rule.{TellsConductor};
+    ghost use Rattle.msrp_board.specs.Inside.Rule.{TellsChange, view_with_conductor};
 
-    ghost then = { TellsConductor Opened };
+    ghost then = { TellsChange (view_with_conductor Opened) };
 }
 
 /// The step of an abort.
@@ -150,9 +150,9 @@ pub(crate) struct Aborts;
 
 impl Play<(), View> for Aborts {
     ghost use Rattle.msrp_board.specs.Common.{Aborted};
-    ghost use Rattle.msrp_board.specs.Inside.Rule.{TellsConductor};
+    ghost use Rattle.msrp_board.specs.Inside.Rule.{TellsChange, view_with_conductor};
 
-    ghost then = { TellsConductor Aborted };
+    ghost then = { TellsChange (view_with_conductor Aborted) };
 }
 
 pub(crate) type Words = Shared<(), View, BoardSize, Tickets>;

@@ -51,13 +51,7 @@ impl Board {
     {
         let Board { table, size } = self;
         let last = Snapshot::of(&seat);
-        let BoardSeat {
-            table_seat,
-            size: _,
-            states: _,
-            conductor: _,
-        } = seat;
-        let closed = table.close_with(table_seat);
+        let closed = table.close_with(seat.table_seat);
         let words = words_of(&closed, size.resources);
         closed.free();
         Settled { words, size, last }

@@ -216,10 +216,6 @@ spent = record { pages = []; conductor = None }
 abbrev pub page_with_arrival : Page → Page
 page_with_arrival b = record { newest = b.newest; tick = suc b.tick; admitted = false; stopped = b.stopped }
 
--- what an arrival promises
-abbrev pub TellsArrival : Step (Unit {0}) → Me (Unit {0}) View → ℕ → Me (Unit {0}) View → Type 0
-TellsArrival st me n now = now ≡ (with_pages page_with_arrival me.0, me.1)
-
 -- what a look makes of a book: the high half isn't 0, or the low half is high enough, or neither
 abbrev pub page_after_look_if : Bool → Bool → Page → Page
 page_after_look_if true q b = record { newest = b.newest; tick = b.tick; admitted = b.admitted; stopped = true }
@@ -254,6 +250,6 @@ TellsRule z st me n now = IsUnderRule z me now
 abbrev pub view_with_conductor : Conductor → View → View
 view_with_conductor o v = record { pages = v.pages; conductor = Some o }
 
--- what the opening and the abort promise
-abbrev pub TellsConductor : Conductor → Step (Unit {0}) → Me (Unit {0}) View → ℕ → Me (Unit {0}) View → Type 0
-TellsConductor o st me n now = now ≡ (view_with_conductor o me.0, me.1)
+-- what a step promises that changes its seat's view by f: an arrival, the opening, the abort
+abbrev pub TellsChange : (View → View) → Step (Unit {0}) → Me (Unit {0}) View → ℕ → Me (Unit {0}) View → Type 0
+TellsChange f st me n now = now ≡ (f me.0, me.1)
