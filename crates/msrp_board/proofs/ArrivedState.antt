@@ -1,12 +1,7 @@
 -- What a seat keeps of a core after its arrival.
 use Rattle.std.proofs.Common.{◌==◌, ◌||◌, ◌≡◌, ◌∷◌, ◌∙◌}
 use Rattle.msrp_plan.proofs.Common.{ℕ, suc, List, [], Bool, false, refl, sym, ap, arith, ne_eqb, list_any}
-use Rattle.msrp_board.specs.declared.books.Entry.{Entry}
-use Rattle.msrp_board.specs.declared.pages.Page.{Page}
-use Rattle.msrp_board.specs.declared.held.CoreState.{CoreState}
-use Rattle.msrp_board.specs.Inside.Newest.{TicksNewest}
-use Rattle.msrp_board.specs.Inside.Rule.{page_with_arrival}
-use Rattle.msrp_board.specs.Inside.Held.{state_of}
+use Rattle.msrp_board.proofs.Common.{CoreState, Entry, Page, TicksNewest, page_with_arrival, state_of}
 use Rattle.msrp_board.proofs.Kept.{ticks_more}
 
 -- none of them is r

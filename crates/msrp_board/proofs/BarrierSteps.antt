@@ -1,22 +1,12 @@
 -- A look and an arrival keep the rule.
-use Rattle.msrp_plan.proofs.Common.{ltb, leb, ⊎_elim, ℕ, zero, suc, List, [], length, set, Bool, true, false, refl, sym, ap, subst, arith, slice_index, some, none, some-injective, some-ne-none, get_elem?, mul-le, mod-mul-add, div-mul-add, length-set, get_or-set_same, get_or-set_other}
-use Rattle.std.proofs.Common.{◌≡◌, ◌≢◌, ◌+◌, ◌*◌, ◌/◌, ◌%◌, ◌^◌, ◌<◌, ◌≤◌, ◌∷◌, ◌∙◌, ltb-true, leb-true}
-use Rattle.atomic_table.specs.Table.{State, Me, step, keeps, stepped, Allows}
-use Rattle.atomic_table.proofs.Lists.{at_set}
-use Rattle.msrp_board.specs.declared.pages.Page.{Page}
-use Rattle.msrp_board.specs.declared.pages.View.{View}
-use Rattle.msrp_board.specs.declared.books.BoardSize.{BoardSize}
-use Rattle.msrp_board.specs.declared.books.Conductor.{Conductor}
-use Rattle.msrp_board.specs.declared.books.Conductor.TheVariants.{Unopened, Opened, Aborted}
-use Rattle.msrp_board.specs.Books.{on_resource, admissions_of}
-use Rattle.msrp_board.specs.History.{by_core}
-use Rattle.msrp_board.specs.Boards.{opening_count, abort_count}
-use Rattle.msrp_board.specs.Inside.Rule.{arrivals, page_admissions, HasConductor, Gathered, IsServedNewest, IsKeptNewest, Ruled, HasOnly, with_pages, page_with_arrival, TellsArrival, page_after_look_if, page_after_look, TellsLook}
+use Rattle.msrp_plan.proofs.Common.{ltb, leb, ⊎_elim, ℕ, zero, suc, List, [], length, set, Bool, true, false, refl, sym, ap, subst, arith, slice_index, some, none, get_elem?, mul-le, mod-mul-add, div-mul-add, length-set, get_or-set_same, get_or-set_other}
+use Rattle.std.proofs.Common.{◌≡◌, ◌≢◌, ◌+◌, ◌*◌, ◌/◌, ◌%◌, ◌^◌, ◌<◌, ◌≤◌, ◌∙◌, ltb-true, leb-true}
+use Rattle.msrp_board.proofs.Common.{Aborted, Allows, BoardSize, Conductor, Gathered, HasConductor, HasOnly, IsKeptNewest, IsServedNewest, Me, Opened, Page, Ruled, State, TellsChange, TellsLook, Unopened, View, abort_count, admissions_of, arrivals, at_set, by_core, keeps, on_resource, opening_count, page_admissions, page_after_look, page_after_look_if, page_with_arrival, step, stepped, with_pages}
 use Rattle.msrp_board.proofs.Sharing.{same_shared}
 use Rattle.msrp_board.proofs.Counts.{arrivals_set, total_same}
 use Rattle.msrp_board.proofs.TicketSteps.{shared_step}
 use Rattle.msrp_board.proofs.Kept.{kept_arrival, kept_look}
-use Rattle.msrp_board.proofs.Arrivals.{total_of, admits}
+use Rattle.msrp_board.proofs.Arrivals.{above, all_full, arrivals_bound}
 
 served_same : (g n c : ℕ) (books : List Page) (b d : Page) → get_elem? books c ≡ some b → d.newest ≡ b.newest → IsServedNewest g n books → IsServedNewest g n (set books c d)
 served_same g n c books b d has same s =
@@ -94,16 +84,12 @@ meets z s id m c v b d f r at_id sole is same kept gat =
       words = length-set s.words z.resources m ∙ r.words;
     }
 
-pub arrivals_bound : (books : List Page) (m : ℕ) → ((c : ℕ) (b : Page) → get_elem? books c ≡ some b → b.tick ≤ m) → arrivals books ≤ length books * m
-arrivals_bound [] m h = omega arith
-arrivals_bound (x ∷ xs) m h = let a = h 0 x refl in let q = arrivals_bound xs m (λ c b e. h (suc c) b e) in omega (arith, a, q)
-
 pub few_arrivals : (z : BoardSize) (s : State (Unit {0}) View) (r : Ruled z s) → arrivals r.pages ≤ 160000
 few_arrivals z s r =
     let t = arrivals_bound r.pages z.ticks (λ c b e. let k = (r.tied.kept c b e).within in let l = reach_high b in omega (arith, k, l)) in
     let m = mul-le (length r.pages) z.ticks 8 20000 (let x = r.limits.cores.1 in let n = r.tied.cores in omega (arith, n, x)) r.limits.ticks.1 in omega (arith, t, m)
 
-pub arrive_allowed : (z : BoardSize) (slots id : ℕ) (me : Me (Unit {0}) View) (c : ℕ) (b : Page) → HasOnly me.0 c b → b.admitted ≡ true → Allows (Ruled z) slots id me z.resources (λ n. (n + 1) % 2 ^ 64) (TellsArrival (step slots z.resources 1 0 none) me)
+pub arrive_allowed : (z : BoardSize) (slots id : ℕ) (me : Me (Unit {0}) View) (c : ℕ) (b : Page) → HasOnly me.0 c b → b.admitted ≡ true → Allows (Ruled z) slots id me z.resources (λ n. (n + 1) % 2 ^ 64) (TellsChange (with_pages page_with_arrival) (step slots z.resources 1 0 none) me)
 arrive_allowed z slots id me c b sole in_tick s r _ at_id fits =
     let n = slice_index s.words z.resources in
     let m = (n + 1) % 2 ^ 64 in
@@ -126,28 +112,6 @@ arrive_allowed z slots id me c b sole in_tick s r _ at_id fits =
       refl,
     )
 
-abbrev ticks_list : List Page → List ℕ
-ticks_list [] = []
-ticks_list (b ∷ bs) = b.tick ∷ ticks_list bs
-
-list_total : (books : List Page) → total_of (ticks_list books) ≡ arrivals books
-list_total [] = refl
-list_total (b ∷ bs) = ap (λ k. b.tick + k) (list_total bs)
-
-list_length : (books : List Page) → length (ticks_list books) ≡ length books
-list_length [] = refl
-list_length (b ∷ bs) = ap suc (list_length bs)
-
-list_at : (books : List Page) (d : ℕ) (a : ℕ) → get_elem? (ticks_list books) d ≡ some a → (b : Page) × (get_elem? books d ≡ some b) × (b.tick ≡ a)
-list_at [] d a e = absurd (some-ne-none a (sym e))
-list_at (b ∷ bs) zero a e = (b, refl, some-injective b.tick a e)
-list_at (b ∷ bs) (suc d) a e = list_at bs d a e
-
-at_list : (books : List Page) (d : ℕ) (b : Page) → get_elem? books d ≡ some b → get_elem? (ticks_list books) d ≡ some b.tick
-at_list [] d b e = absurd (some-ne-none b (sym e))
-at_list (x ∷ xs) zero b e = ap (λ (y : Page). some y.tick) (some-injective x b e)
-at_list (x ∷ xs) (suc d) b e = at_list xs d b e
-
 pub bit : (o : Conductor) → opening_count o ≤ 1
 bit Unopened = omega arith
 bit Opened = omega arith
@@ -165,18 +129,17 @@ is_aborted Aborted e = refl
 
 -- enough arrivals let a core into its tick
 let_in : (books : List Page) (n t : ℕ) (o : Conductor) → Gathered n books o → 1 + length books * t ≤ arrivals books + opening_count o → (o ≡ Opened) × ((x : ℕ) (e : Page) → get_elem? books x ≡ some e → t ≤ e.tick)
-let_in books n t o g enough =
-    let len = list_length books in
-    let sum = list_total books in
-    let mul : length (ticks_list books) * t ≡ length books * t = ap (λ k. k * t) len in
-    let a = admits (ticks_list books) (opening_count o) t (bit o)
-    (λ d x at pos. let u = list_at books d x at in let eq = u.2 in let high = reach_high u.0 in let up = g.met d u.0 u.1 (omega (arith, eq, high, pos)) in
-    (ap opening_count up.0, λ f y j. let v = list_at books f y j in let vq = v.2 in step_le u.0 v.0 x y eq vq high (up.1 f v.0 v.1)))
-    (omega (arith, enough, sum, mul)) in
-    (is_open o a.0, λ x e at. a.1 x e.tick (at_list books x e at))
-  where
-    step_le : (p q : Page) (x y : ℕ) → p.tick ≡ x → q.tick ≡ y → p.tick ≤ page_admissions p → page_admissions p ≤ suc q.tick → x ≤ suc y
-    step_le p q x y a b h l = omega (arith, a, b, h, l)
+let_in books n t o g enough = ⊎_elim
+    (λ (u : (c : ℕ) × (b : Page) × (get_elem? books c ≡ some b) × (t < b.tick)).
+    let past = u.3 in
+    let high = reach_high u.1 in
+    let up = g.met u.0 u.1 u.2 (omega (arith, past, high)) in
+    (up.0, λ x e at. let l = up.1 x e at in omega (arith, past, high, l)))
+    (λ up.
+    let few = arrivals_bound books t up in
+    let one = bit o in
+    (is_open o (omega (arith, few, enough, one)), all_full books t up (omega (arith, enough, one))))
+    (above books t)
 
 looks : (z : BoardSize) (s : State (Unit {0}) View) (id n c : ℕ) (v : View) (b : Page) (f : Page → Page) (r : Ruled z s) (h q : Bool) → get_elem? s.views id ≡ some v → HasOnly v c b → b.admitted ≡ false → b.tick < z.ticks → f b ≡ page_after_look_if h q b → n ≡ slice_index s.words z.resources
     → (h ≡ true → r.conductor ≡ Aborted) → (q ≡ true → (r.conductor ≡ Opened) × ((x : ℕ) (e : Page) → get_elem? r.pages x ≡ some e → b.tick ≤ e.tick))

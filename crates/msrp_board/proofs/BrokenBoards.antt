@@ -1,17 +1,8 @@
 -- Each broken board breaks the rule.
 use Rattle.std.proofs.Common.{◌≡◌, ◌<◌, ◌≤◌, ◌∷◌, ◌∙◌}
 use Rattle.msrp_plan.proofs.Common.{ℕ, zero, suc, List, [], cond, true, false, refl, ap, subst, arith, inl, inr, ne_eqb, AllByRecursion}
-use Rattle.msrp_plan.specs.declared.units.Call.TheVariants.{Ask, Poll, Leave}
-use Rattle.msrp_board.specs.declared.books.Book.{Book}
-use Rattle.msrp_board.specs.declared.books.Conductor.TheVariants.{Opened, Aborted}
-use Rattle.msrp_board.specs.declared.books.Entry.{Entry}
-use Rattle.msrp_board.specs.Boards.{IsTied, entries_at}
-use Rattle.msrp_plan.specs.declared.ids.ResId.{ResId}
-use Rattle.msrp_plan.specs.declared.units.Phase.TheVariants.{Free, Queued}
-use Rattle.msrp_board.specs.Books.{IsKept, on_resource}
+use Rattle.msrp_board.proofs.Common.{Aborted, Ask, Book, Entry, Event, Free, IsKept, IsServed, IsTied, Leave, Opened, Poll, Queued, ResId, by_core, entries_at, on_resource, ticket_word}
 use Rattle.msrp_board.specs.BrokenBoards.{step, lost_book, shared_ticket, counted_twice, two_holders, invented_grant, old_poll, acted_twice, lost_arrival, invented_stop, early, second_word, nine_cores, lost_abort, size, late, undeclared, same_place, unasked}
-use Rattle.msrp_board.specs.History.{Event, by_core, IsServed}
-use Rattle.msrp_board.specs.Words.{ticket_word}
 use Rattle.msrp_board.proofs.Unique.{Before, Sorted, history_is}
 
 -- ---- the history of the resource, where there are two cores

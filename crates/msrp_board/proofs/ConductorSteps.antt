@@ -1,16 +1,7 @@
 -- The conductor's steps keep the rule.
 use Rattle.std.proofs.Common.{◌≡◌, ◌≢◌, ◌+◌, ◌%◌, ◌^◌, ◌∙◌}
 use Rattle.msrp_plan.proofs.Common.{⊎_elim, ℕ, List, [], set, Some, refl, sym, ap, subst, arith, slice_index, some, none, get_elem?, length-set, get_or-set_same, get_or-set_other, same_Some}
-use Rattle.atomic_table.specs.Table.{State, Me, step, keeps, stepped, Allows}
-use Rattle.atomic_table.proofs.Lists.{at_set, set_here}
-use Rattle.msrp_board.specs.declared.pages.View.{View}
-use Rattle.msrp_board.specs.declared.states.States.{States}
-use Rattle.msrp_board.specs.Inside.Held.{IsHeld}
-use Rattle.std.specs.declared.option.Option.{Option}
-use Rattle.msrp_board.specs.declared.books.BoardSize.{BoardSize}
-use Rattle.msrp_board.specs.declared.books.Conductor.{Conductor}
-use Rattle.msrp_board.specs.declared.books.Conductor.TheVariants.{Unopened, Opened, Aborted}
-use Rattle.msrp_board.specs.Inside.Rule.{OwnsBy, SharedConductor, HasConductor, HasPage, Gathered, IsServedNewest, Ruled, view_with_conductor, TellsOpening, TellsAbort}
+use Rattle.msrp_board.proofs.Common.{Aborted, Allows, BoardSize, Conductor, Gathered, HasConductor, HasPage, IsHeld, IsServedNewest, Me, Opened, Option, OwnsBy, Ruled, SharedConductor, State, States, TellsChange, Unopened, View, at_set, keeps, set_here, step, stepped, view_with_conductor}
 use Rattle.msrp_board.proofs.Sharing.{same_shared}
 use Rattle.msrp_board.proofs.BarrierSteps.{few_arrivals}
 use Rattle.msrp_board.proofs.Queue.{in_range}
@@ -52,7 +43,7 @@ not_aborted e = cc
 not_opened : Unopened ≡ Opened → ⊥
 not_opened e = cc
 
-pub open_allowed : (z : BoardSize) (slots id : ℕ) (me : Me (Unit {0}) View) → me.0.conductor ≡ Some Unopened → Allows (Ruled z) slots id me z.resources (λ n. (n + 1) % 2 ^ 64) (TellsOpening (step slots z.resources 1 0 none) me)
+pub open_allowed : (z : BoardSize) (slots id : ℕ) (me : Me (Unit {0}) View) → me.0.conductor ≡ Some Unopened → Allows (Ruled z) slots id me z.resources (λ n. (n + 1) % 2 ^ 64) (TellsChange (view_with_conductor Opened) (step slots z.resources 1 0 none) me)
 open_allowed z slots id me mine s r _ at_id fits =
     let n = slice_index s.words z.resources in
     let is : r.conductor ≡ Unopened = (r.shared_conductor.true_of id 0 Unopened (me.0, at_id, (refl, mine))).1 in
@@ -66,7 +57,7 @@ open_allowed z slots id me mine s r _ at_id fits =
       refl,
     )
 
-pub abort_allowed : (z : BoardSize) (slots id : ℕ) (me : Me (Unit {0}) View) → me.0.conductor ≡ Some Unopened → Allows (Ruled z) slots id me z.resources (λ n. (n + 4294967296) % 2 ^ 64) (TellsAbort (step slots z.resources 4294967296 0 none) me)
+pub abort_allowed : (z : BoardSize) (slots id : ℕ) (me : Me (Unit {0}) View) → me.0.conductor ≡ Some Unopened → Allows (Ruled z) slots id me z.resources (λ n. (n + 4294967296) % 2 ^ 64) (TellsChange (view_with_conductor Aborted) (step slots z.resources 4294967296 0 none) me)
 abort_allowed z slots id me mine s r _ at_id fits =
     let n = slice_index s.words z.resources in
     let is : r.conductor ≡ Unopened = (r.shared_conductor.true_of id 0 Unopened (me.0, at_id, (refl, mine))).1 in

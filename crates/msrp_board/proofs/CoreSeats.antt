@@ -1,20 +1,10 @@
 -- A core's seat, for whoever makes its calls: how it comes about, what its readers tell, and that
 -- it stays one.
 use Rattle.msrp_plan.proofs.Common.{ℕ, zero, suc, List, [], map, Bool, true, false, nat_lt, Some, None, refl, sym, subst, ap, arith, ne_eqb, slice_index_or, IsSome, list_any, AllByRecursion, dite, ℕ_discrete}
-use Rattle.msrp_plan.specs.declared.units.Phase.{Phase}
+use Rattle.msrp_board.proofs.Common.{BoardModel, BoardSize, Book, Entry, Go, HasCore, IsCoreSeat, IsCoreSeatOn, IsFresh, IsIn, IsKept, IsSeat, MayAct, Option, Phase, SeatModel, SeatPhase, Wait, Waiting, admissions_of, alone, book_at, book_with_admission, has_acted, is_some, lock_of, only_at, option_map, phase_by, phase_in, with_admission, with_books, with_stop}
 use Rattle.std.proofs.Common.{◌==◌, ◌||◌, ◌≡◌, ◌<◌, ◌∷◌, ◌∙◌, true≢false}
-use Rattle.std.specs.Option.{option_map, is_some}
-use Rattle.std.specs.declared.option.Option.{Option}
 use Rattle.msrp_board.specs.declared.answers.Look.{Look}
-use Rattle.msrp_board.specs.declared.answers.Look.TheVariants.{Wait, Go, Stopped}
-use Rattle.msrp_board.specs.declared.answers.SeatPhase.{SeatPhase}
-use Rattle.msrp_board.specs.declared.answers.SeatPhase.TheVariants.{Waiting}
-use Rattle.msrp_board.specs.declared.books.Entry.{Entry}
-use Rattle.msrp_board.specs.declared.books.Book.{Book}
-use Rattle.msrp_board.specs.declared.books.BoardSize.{BoardSize}
-use Rattle.msrp_board.specs.Books.{phase_by, phase_in, has_acted, lock_of, admissions_of, IsKept}
-use Rattle.msrp_board.specs.Seats.{BoardModel, SeatModel, book_at, IsSeat, IsCoreSeat, IsCoreSeatOn, HasCore, IsIn, IsFresh, MayAct}
-use Rattle.msrp_board.specs.Steps.{with_books, book_with_admission, with_admission, with_stop, only_at, alone}
+use Rattle.msrp_board.specs.declared.answers.Look.TheVariants.{Stopped}
 use Rattle.msrp_board.proofs.SeatBooks.{at-only_other, book_at-alone}
 
 -- a core's seat is of one core, and has one book
@@ -73,7 +63,7 @@ pub is_in : (seat : SeatModel) (phase : SeatPhase) → HasCore seat → ((c : �
 is_in seat phase s reads = record { core = s.0; book = s.1; of_core = s.2; stands = sym (reads s.0 s.1 s.2) }
 
 pub may_act : (seat : SeatModel) (lock : Phase) → IsFresh seat → ((c : ℕ) (b : Book) → IsCoreSeat seat c b → lock ≡ lock_of b) → MayAct lock seat
-may_act seat lock fresh reads = let m = fresh.1 in record { core = m.core; book = m.book; of_core = m.of_core; stands = m.stands; quiet = m.quiet; claims = sym (reads m.core m.book m.of_core) }
+may_act seat lock fresh reads = let m = fresh.1 in record { at = m.at; quiet = m.quiet; claims = sym (reads m.at.core m.at.book m.at.of_core) }
 
 -- ---- what follows from what every book keeps
 
@@ -112,10 +102,12 @@ fresh_after_go old new kept at is =
     subst IsFresh (sym is) (
       lock_of at.book,
       record {
-        core = at.core;
-        book = book_with_admission at.book;
-        of_core = core_changed book_with_admission old at.core at.book at.of_core;
-        stands = ap (λ x. phase_by x true (nat_lt at.book.tick old.board.size.ticks)) out.0;
+        at = record {
+          core = at.core;
+          book = book_with_admission at.book;
+          of_core = core_changed book_with_admission old at.core at.book at.of_core;
+          stands = ap (λ x. phase_by x true (nat_lt at.book.tick old.board.size.ticks)) out.0;
+        };
         quiet = not_acted old.board.size at.book (kept.kept at.core at.book at.of_core.book) out.1;
         claims = refl;
       },

@@ -1,18 +1,7 @@
 -- What a seat keeps of its cores is what its pages say, also after a step.
 use Rattle.std.proofs.Common.{◌≡◌, ◌⊎◌, ◌∷◌, if◌then◌else◌, ◌∙◌}
 use Rattle.msrp_plan.proofs.Common.{inl, inr, ⊎_elim, ℕ, zero, suc, List, [], map, get_or, Some, None, refl, sym, ap, subst, eq-eqb, ne_eqb, some, some-injective, some-ne-none, dite, ℕ_discrete, get_elem?, same_Some}
-use Rattle.std.specs.declared.option.Option.{Option}
-use Rattle.std.specs.Option.{option_map}
-use Rattle.atomic_table.specs.Table.{Me}
-use Rattle.msrp_board.specs.declared.pages.Page.{Page}
-use Rattle.msrp_board.specs.declared.pages.View.{View}
-use Rattle.msrp_board.specs.declared.held.CoreState.{CoreState}
-use Rattle.crossbeam_utils.specs.Padded.{padded_value}
-use Rattle.msrp_board.specs.declared.states.States.{States, End, Of'}
-use Rattle.msrp_board.specs.declared.books.BoardSize.{BoardSize}
-use Rattle.msrp_board.specs.declared.books.Conductor.{Conductor}
-use Rattle.msrp_board.specs.Inside.Held.{state_of, page_at, state_at, kept_of, with_own, AreStates, IsOwn, IsHeld}
-use Rattle.msrp_board.specs.Inside.Rule.{HasOnly, IsKeptNewest, with_pages}
+use Rattle.msrp_board.proofs.Common.{AreStates, BoardSize, Conductor, CoreState, End, HasOnly, IsHeld, IsKeptNewest, IsOwn, Me, Of', Option, Page, States, View, kept_of, option_map, padded_value, page_at, state_at, state_of, with_own, with_pages}
 
 pub get_or_at : {A : Type 0} (l : List A) (i : ℕ) (a d : A) → get_elem? l i ≡ some a → get_or l i d ≡ a
 get_or_at [] i a d e = absurd (some-ne-none a (sym e))

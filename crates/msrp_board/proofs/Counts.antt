@@ -1,15 +1,7 @@
 -- What a core's book says of its stand at each resource.
 use Rattle.std.proofs.Common.{◌≡◌, ◌≢◌, ◌+◌, ◌*◌, ◌≤◌, ◌∷◌, ◌∙◌}
 use Rattle.msrp_plan.proofs.Common.{cond, ℕ, zero, suc, List, [], length, set, Bool, true, false, refl, sym, ap, arith, eqb, eq-eqb, ne_eqb, some, some-ne-none, some-injective, dite, ℕ_discrete, get_elem?}
-use Rattle.msrp_plan.specs.declared.units.Call.{Call}
-use Rattle.msrp_plan.specs.declared.units.Call.TheVariants.{Ask, Poll, Leave}
-use Rattle.msrp_board.specs.declared.books.Entry.{Entry}
-use Rattle.msrp_board.specs.declared.pages.Page.{Page}
-use Rattle.msrp_board.specs.Books.{on_resource}
-use Rattle.msrp_board.specs.Inside.Newest.{ticket_at, ticket_of, claim_with_call, claim_of, IsClaimInTurn, IsRegularNewest, TicksNewest}
-use Rattle.msrp_board.specs.Inside.Rule.{entry_count, page_with, arrivals}
-use Rattle.msrp_board.specs.declared.held.Claim.{Claim}
-use Rattle.msrp_board.specs.declared.held.Claim.TheVariants.{Nothing, Waits, Holds}
+use Rattle.msrp_board.proofs.Common.{Ask, Call, Claim, Entry, Holds, IsClaimInTurn, IsRegularNewest, Leave, Nothing, Page, Poll, TicksNewest, Waits, arrivals, claim_of, claim_with_call, entry_count, on_resource, page_with, ticket_at, ticket_of}
 
 abbrev pub pick : Bool → Claim → Claim
 pick true l = l

@@ -2,27 +2,13 @@
 use Rattle.msrp_plan.proofs.Common.{⊎_elim, inl, inr, ℕ, zero, suc, List, [], length, map, set, take, reverse, Some, None, Bool, true, false, refl, sym, ap, subst, arith, slice_index, slice_index_or, slice_get, some, some-injective, some-ne-none, dite, ℕ_discrete, get_elem?, mul-le, mod-mul-add, div-mul-add, cases_lt, length-map, length-take-le, get_or-take, get_or-set_same, get_or-set_other, sum_by-cons}
 use Rattle.std.proofs.Common.{◌≡◌, ◌⊎◌, ◌+◌, ◌<◌, ◌≤◌, ◌∷◌, ◌∙◌, true≢false}
 use Rattle.std.specs.Prelude.{sum_by, filter_map}
-use Rattle.std.specs.Option.{option_map, unwrap_or, is_some}
-use Rattle.std.specs.declared.option.Option.{Option}
-use Rattle.atomic_table.specs.Table.{Final, Seen}
-use Rattle.atomic_table.specs.Seated.{TableId}
-use Rattle.msrp_board.specs.declared.books.Book.{Book}
-use Rattle.msrp_board.specs.declared.books.BoardSize.{BoardSize}
-use Rattle.msrp_board.specs.declared.books.Conductor.{Conductor}
-use Rattle.msrp_board.specs.declared.books.Conductor.TheVariants.{Unopened, Opened, Aborted}
-use Rattle.msrp_board.specs.declared.pages.Page.{Page}
-use Rattle.msrp_board.specs.declared.pages.View.{View}
-use Rattle.msrp_board.specs.Books.{IsSize, on_resource, IsKept, admissions as book_admissions}
-use Rattle.msrp_board.specs.History.{Event, by_core, IsServed}
-use Rattle.msrp_board.specs.Seats.{BoardModel, SeatModel, book_at, HasAll}
-use Rattle.msrp_board.specs.Boards.{WholeBoard, IsTied, entries_at, opening_count, abort_count}
-use Rattle.msrp_board.specs.Words.{high, low}
-use Rattle.msrp_board.specs.Inside.Rule.{empty_page, HasPage, Ruled, IsServedNewest, IsKeptNewest, IsTiedNewest, Gathered, page_admissions, arrivals, entry_count}
-use Rattle.msrp_board.specs.Inside.Held.{told, seen_as, page_at, settled_as, IsWhole}
+use Rattle.msrp_board.proofs.Common.{Aborted, BoardModel, BoardSize, Book, Conductor, Event, Final, Gathered, HasAll, HasPage, IsKept, IsKeptNewest, IsServed, IsServedNewest, IsSize, IsTied, IsTiedNewest, IsWhole, Opened, Option, Page, Ruled, SeatModel, Seen, TableId, Unopened, View, WholeBoard, abort_count, arrivals, book_at, by_core, empty_page, entries_at, entry_count, high, is_some, low, on_resource, opening_count, option_map, page_admissions, page_at, seen_as, settled_as, told, unwrap_or}
+use Rattle.msrp_board.specs.Books.{admissions as book_admissions}
 use Rattle.msrp_board.proofs.CoreStates.{get_or_at, has_page, page_has, page_or_none}
 use Rattle.msrp_board.proofs.Counts.{total_bound, ticks_length}
 use Rattle.msrp_board.proofs.TicketSteps.{steps_length, split_word}
-use Rattle.msrp_board.proofs.BarrierSteps.{arrivals_bound, reach_high, bit}
+use Rattle.msrp_board.proofs.Arrivals.{arrivals_bound}
+use Rattle.msrp_board.proofs.BarrierSteps.{reach_high, bit}
 use Rattle.msrp_board.proofs.Reversed.{history_reversed, legal_reversed, requests_reversed, releases_reversed, rising_reversed}
 use Rattle.msrp_board.proofs.Kept.{kept_told}
 use Rattle.msrp_board.proofs.Told.{shown}

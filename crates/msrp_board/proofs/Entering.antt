@@ -1,15 +1,8 @@
 -- What a step on a ticket word tells, by the halves that it found.
 use Rattle.std.proofs.Common.{◌==◌, ◌≡◌, ◌+◌, ◌∙◌}
 use Rattle.msrp_plan.proofs.Common.{ℕ, sym, ap, subst, none}
-use Rattle.msrp_plan.specs.declared.units.Call.{Call}
-use Rattle.msrp_plan.specs.declared.units.Call.TheVariants.{Poll}
-use Rattle.atomic_table.specs.Table.{Me, step}
-use Rattle.msrp_board.specs.declared.held.Claim.TheVariants.{Waits}
-use Rattle.msrp_board.specs.declared.pages.View.{View}
+use Rattle.msrp_board.proofs.Common.{Call, HasEntered, Me, Poll, Tells, View, ViewIsBehind, ViewMayAct, Waits, high, low, page_with_entry, page_with_poll, step, ticket_of, with_pages}
 use Rattle.msrp_board.specs.declared.words.TicketWord.{TicketWord}
-use Rattle.msrp_board.specs.Words.{high, low}
-use Rattle.msrp_board.specs.Inside.Newest.{ticket_of}
-use Rattle.msrp_board.specs.Inside.Rule.{HasEntered, TellsPoll, ViewIsBehind, ViewMayAct, with_pages, page_with_entry, page_with_poll}
 use Rattle.msrp_board.proofs.Seats.{sole_change}
 
 -- the word, by its halves
@@ -25,9 +18,9 @@ entered_by call g me now word n is changed behind = record {
 }
 
 -- of a core that waits with this ticket
-pub poll_entered : (slots g a ticket : ℕ) (me now : Me (Unit {0}) View) (word : TicketWord) (n : ℕ) → IsHalves word n → ViewMayAct me.0 (Waits g ticket) → TellsPoll (step slots g a 0 none) me n now
+pub poll_entered : (slots g a ticket : ℕ) (me now : Me (Unit {0}) View) (word : TicketWord) (n : ℕ) → IsHalves word n → ViewMayAct me.0 (Waits g ticket) → Tells page_with_poll (step slots g a 0 none) me n now
     → HasEntered g (word.next + word.serving) (Poll (word.serving == ticket)) me now
 poll_entered slots g a ticket me now word n is may t = entered_by (λ h l. Poll (l == ticket)) g me now word n is
-    (t.changed ∙ ap (λ (w : View). (w, me.1)) (sole_change me.0 may.core may.page (page_with_poll g n) (page_with_entry g (high n + low n) (Poll (low n == ticket))) may.has
-    (ap (λ k. page_with_entry g (high n + low n) (Poll (low n == k)) may.page) (ap ticket_of may.claims))))
+    (t.changed ∙ ap (λ (w : View). (w, me.1)) (sole_change me.0 may.at.core may.at.page (page_with_poll g n) (page_with_entry g (high n + low n) (Poll (low n == ticket))) may.at.has
+    (ap (λ k. page_with_entry g (high n + low n) (Poll (low n == k)) may.at.page) (ap ticket_of may.claims))))
     t.behind

@@ -1,17 +1,8 @@
 -- Each step keeps the rule's part on one book, which a seat knows by itself; and what follows from
 -- it.
 use Rattle.msrp_plan.proofs.Common.{ℕ, zero, suc, List, [], Bool, true, false, refl, sym, ap, subst, arith, eq-eqb, list_any, AllByRecursion, dite, ℕ_discrete}
-use Rattle.msrp_plan.specs.declared.units.Call.{Call}
-use Rattle.msrp_plan.specs.declared.units.Call.TheVariants.{Ask, Poll, Leave}
+use Rattle.msrp_board.proofs.Common.{AreBefore, Ask, BoardSize, Call, Claim, Entry, IsBefore, IsBelow, IsChain, IsClaimInTurn, IsKept, IsKeptNewest, IsRegularNewest, Leave, Page, Poll, TicksNewest, ToNext, admissions_of, claim_of, claim_with_call, empty_page, on_resource, page_admissions, page_after_look_if, page_has_acted, page_with, page_with_arrival, told}
 use Rattle.std.proofs.Common.{◌==◌, ◌||◌, ◌≡◌, ◌≢◌, ◌<◌, ◌≤◌, ◌∷◌, ◌∙◌, true≢false}
-use Rattle.msrp_board.specs.declared.books.Entry.{Entry}
-use Rattle.msrp_board.specs.declared.books.BoardSize.{BoardSize}
-use Rattle.msrp_board.specs.declared.held.Claim.{Claim}
-use Rattle.msrp_board.specs.declared.pages.Page.{Page}
-use Rattle.msrp_board.specs.Books.{on_resource, admissions_of, IsBefore, AreBefore, ToNext, IsChain, IsKept}
-use Rattle.msrp_board.specs.Inside.Newest.{claim_of, claim_with_call, IsClaimInTurn, IsRegularNewest, TicksNewest}
-use Rattle.msrp_board.specs.Inside.Rule.{empty_page, page_admissions, page_has_acted, page_with, page_with_arrival, page_after_look_if, IsKeptNewest}
-use Rattle.msrp_board.specs.Inside.Held.{told, IsBelow}
 use Rattle.msrp_board.proofs.Counts.{on_same, on_other}
 use Rattle.msrp_board.proofs.Lists.{all_reversed, filter_reversed, chain_reversed}
 use Rattle.msrp_board.proofs.Reversed.{past_reversed, ticks_reversed, regular_reversed}

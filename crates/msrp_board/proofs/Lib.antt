@@ -1,3 +1,4 @@
+pub mod Common
 -- lists, read in the other direction, and what seats hold between them
 pub mod Lists
 pub mod Sharing

@@ -2,7 +2,7 @@
 use Rattle.std.proofs.Common.{◌≡◌, ◌∷◌, ◌++◌, ◌∙◌}
 use Rattle.msrp_plan.proofs.Common.{List, [], reverse, Bool, true, false, cond, fold, refl, sym, ap, subst, append-nil, filter, AllByRecursion, filter-append, all_push}
 use Rattle.std.proofs.lemmas.List.{reverse-append}
-use Rattle.msrp_board.specs.Books.{IsChain}
+use Rattle.msrp_board.proofs.Common.{IsChain}
 
 pub reverse_cons : {X : Type 0} (x : X) (xs : List X) → reverse (x ∷ xs) ≡ reverse xs ++ x ∷ []
 reverse_cons x xs = reverse-append (x ∷ []) xs

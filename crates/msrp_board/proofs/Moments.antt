@@ -1,17 +1,8 @@
 -- A state under the rule, as callers see it.
 use Rattle.std.proofs.Common.{◌≡◌, ◌∷◌, ◌∙◌}
 use Rattle.msrp_plan.proofs.Common.{ℕ, zero, suc, List, [], map, set, Some, refl, sym, ap, subst, arith, slice_get, slice_index, set-get_or, some, none, some-injective, some-ne-none, get_elem?}
-use Rattle.atomic_table.proofs.Lists.{set_again}
-use Rattle.atomic_table.specs.Table.{State, Me, step, keeps, stepped, Allows}
-use Rattle.msrp_board.specs.declared.books.BoardSize.{BoardSize}
-use Rattle.msrp_board.specs.declared.books.Book.{Book}
-use Rattle.msrp_board.specs.declared.books.Conductor.{Conductor}
-use Rattle.msrp_board.specs.declared.pages.Page.{Page}
-use Rattle.msrp_board.specs.declared.pages.View.{View}
-use Rattle.msrp_board.specs.Seats.{BoardModel, SeatModel, book_at}
+use Rattle.msrp_board.proofs.Common.{Allows, BoardModel, BoardSize, Book, Conductor, HasConductor, HasPage, IsUnderRule, Me, OwnsBy, Page, Ruled, SeatModel, State, TellsRule, View, book_at, keeps, seen_as, set_again, step, stepped, told}
 use Rattle.msrp_board.specs.Moments.{HoldsBook, HoldsConductor, AreTied, StandsIn}
-use Rattle.msrp_board.specs.Inside.Rule.{OwnsBy, HasPage, HasConductor, Ruled, IsUnderRule, TellsRule}
-use Rattle.msrp_board.specs.Inside.Held.{told, seen_as}
 use Rattle.msrp_board.proofs.Told.{page_of, book_of}
 use Rattle.msrp_board.proofs.End.{whole_of, tied_told, book_of_page, page_of_book}
 

@@ -1,16 +1,8 @@
 -- What a legal history says of each core.
 use Rattle.msrp_plan.proofs.Common.{div-mul-add, cond, inl, inr, ⊎_elim, ℕ, zero, suc, List, [], length, Bool, true, false, refl, sym, ap, subst, arith, eq-eqb, ne_eqb, length-append, some, none, some-injective, some-ne-none, dite, ℕ_discrete, get_elem?, IsAmong, IsFirst, without_first, Answers}
-use Rattle.msrp_plan.specs.declared.units.Call.{Call}
-use Rattle.msrp_plan.specs.declared.units.Call.TheVariants.{Ask, Poll, Leave}
+use Rattle.msrp_board.proofs.Common.{Ask, Call, Claim, Entry, Event, Holds, Leave, LegalNewest, Nothing, PlacedNewest, Poll, Waits, asks, at_last, at_longer, by_core, claim_of, granted, granted_after, leaves, lock, queue, ticket_at, ticket_of}
 use Rattle.std.proofs.Common.{◌/◌, ◌≡◌, ◌≢◌, ◌⊎◌, ◌+◌, ◌*◌, ◌<◌, ◌∷◌, ◌++◌, ◌∙◌, true≢false}
 use mathlib.Core.Option.{Option}
-use Rattle.atomic_table.proofs.Lists.{at_longer, at_last}
-use Rattle.msrp_board.specs.declared.books.Entry.{Entry}
-use Rattle.msrp_board.specs.History.{Event, by_core}
-use Rattle.msrp_board.specs.Inside.Newest.{ticket_at, lock, asks, leaves, queue, granted, LegalNewest, PlacedNewest, ticket_of, claim_of}
-use Rattle.msrp_board.specs.declared.held.Claim.{Claim}
-use Rattle.msrp_board.specs.declared.held.Claim.TheVariants.{Nothing, Waits, Holds}
-use Rattle.msrp_plan.specs.FifoLock.{granted_after}
 
 abbrev pub ticket : Claim → Option ℕ
 ticket Nothing = none

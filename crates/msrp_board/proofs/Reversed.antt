@@ -1,18 +1,8 @@
 -- What a board keeps newest first, read oldest first: its histories, and its books.
-use Rattle.msrp_plan.proofs.Common.{ℕ, List, [], reverse, Bool, true, false, cond, fold, refl, sym, ap, subst, arith, append-nil, count_by, AllByRecursion, sum_by-append, sum_by-cons, FifoLock, free_lock, lock_after, Answers, Legal, ResCall, claim_with, IsDueCall, lock_from}
-use Rattle.msrp_plan.specs.declared.units.Call.{Call}
-use Rattle.msrp_plan.specs.declared.units.Call.TheVariants.{Ask, Poll, Leave}
-use Rattle.msrp_plan.specs.declared.units.Phase.{Phase}
-use Rattle.msrp_plan.specs.declared.units.Phase.TheVariants.{Free}
-use Rattle.std.proofs.Common.{◌==◌, ◌≡◌, ◌+◌, ◌<◌, ◌≤◌, ◌∷◌, ◌++◌, ◌∙◌, true≢false}
-use Rattle.std.specs.Bool.{OnTrue}
-use Rattle.msrp_board.specs.declared.books.Entry.{Entry}
-use Rattle.msrp_board.specs.declared.held.Claim.{Claim}
-use Rattle.msrp_board.specs.Books.{on_resource, res_calls, ToNext, IsChain}
+use Rattle.msrp_plan.proofs.Common.{ℕ, suc, List, [], reverse, Bool, true, false, cond, fold, refl, sym, ap, subst, arith, append-nil, count_by, AllByRecursion, sum_by-append, sum_by-cons, FifoLock, free_lock, lock_after, Answers, Legal, ResCall, claim_with, IsDueCall, lock_from}
+use Rattle.msrp_board.proofs.Common.{Ask, Call, Claim, Entry, Event, Free, IsChain, IsClaimInTurn, IsHistory, IsNotLater, IsPollAfter, IsRegularNewest, Leave, LegalNewest, NoneLater, OnTrue, Phase, Placed, PlacedNewest, Poll, PollsInOrder, PollsNewest, RisingNewest, TicksNewest, ToNext, asks, by_core, calls, claim_of, is_poll, is_release, is_request, leaves, lock, on_resource, phase_of, place_after, res_calls}
+use Rattle.std.proofs.Common.{◌&&◌, ◌==◌, ◌≡◌, ◌+◌, ◌<◌, ◌≤◌, ◌∷◌, ◌++◌, ◌∙◌, true≢false}
 use Rattle.msrp_plan.specs.Calls.{IsRegularFrom, IsRegular}
-use Rattle.msrp_board.specs.History.{Event, by_core, calls, is_request, is_poll, is_release, place_after, Placed, PollsInOrder, IsNotLater, IsHistory}
-use Rattle.msrp_board.specs.Inside.Newest.{asks_after, leaves_after, asks, leaves, lock, LegalNewest, PlacedNewest, RisingNewest, NoneLater, are_polls, IsPollAfter, PollsNewest, claim_of, IsClaimInTurn, IsRegularNewest, TicksNewest}
-use Rattle.msrp_board.specs.Inside.Held.{phase_of}
 use Rattle.msrp_board.proofs.Lists.{reverse_cons, fold_last, all_reversed, filter_reversed, chain_reversed}
 use Rattle.msrp_board.proofs.Told.{lock_newest, res_calls_newest}
 use Rattle.msrp_plan.proofs.Queues.LockHistories.{legal_push}
@@ -39,7 +29,7 @@ legal_reversed (s ∷ h) l = subst Legal (sym (calls_cons s h)) (legal_push free
 abbrev place_from : ℕ → List Event → ℕ
 place_from p h = fold (λ (n : ℕ) (s : Event). place_after n s.1.call) p h
 
-place_one : (a l : ℕ) (k : Call) → place_after (a + l) k ≡ asks_after a k + leaves_after l k
+place_one : (a l : ℕ) (k : Call) → place_after (a + l) k ≡ cond (is_request k) (suc a) a + cond (is_release k) (suc l) l
 place_one a l (Ask n) = omega arith
 place_one a l (Poll b) = refl
 place_one a l Leave = omega arith
@@ -58,15 +48,9 @@ placed_reversed (s ∷ h) p = subst (Placed 0) (sym (reverse_cons s h)) (placed_
 
 -- ---- counts
 
-request_one : (n : ℕ) (k : Call) → n + cond (is_request k) 1 0 ≡ asks_after n k
-request_one n (Ask a) = omega arith
-request_one n (Poll b) = omega arith
-request_one n Leave = omega arith
-
-release_one : (n : ℕ) (k : Call) → n + cond (is_release k) 1 0 ≡ leaves_after n k
-release_one n (Ask a) = omega arith
-release_one n (Poll b) = omega arith
-release_one n Leave = omega arith
+one_more : (n : ℕ) (b : Bool) → n + cond b 1 0 ≡ cond b (suc n) n
+one_more n true = omega arith
+one_more n false = omega arith
 
 count_last : {X : Type 0} (p : X → Bool) (h : List X) (s : X) → count_by p (h ++ s ∷ []) ≡ count_by p h + cond (p s) 1 0
 count_last p h s = sum_by-append (λ x. cond (p x) 1 0) h (s ∷ []) ∙ ap (λ n. count_by p h + n) (sum_by-cons (λ x. cond (p x) 1 0) s [] ∙ add_none (cond (p s) 1 0))
@@ -76,11 +60,11 @@ count_last p h s = sum_by-append (λ x. cond (p x) 1 0) h (s ∷ []) ∙ ap (λ 
 
 pub requests_reversed : (h : List Event) → count_by (λ s. is_request s.1.call) (reverse h) ≡ asks h
 requests_reversed [] = refl
-requests_reversed (s ∷ h) = ap (count_by (λ (x : Event). is_request x.1.call)) (reverse_cons s h) ∙ count_last (λ (x : Event). is_request x.1.call) (reverse h) s ∙ ap (λ n. n + cond (is_request s.1.call) 1 0) (requests_reversed h) ∙ request_one (asks h) s.1.call
+requests_reversed (s ∷ h) = ap (count_by (λ (x : Event). is_request x.1.call)) (reverse_cons s h) ∙ count_last (λ (x : Event). is_request x.1.call) (reverse h) s ∙ ap (λ n. n + cond (is_request s.1.call) 1 0) (requests_reversed h) ∙ one_more (asks h) (is_request s.1.call)
 
 pub releases_reversed : (h : List Event) → count_by (λ s. is_release s.1.call) (reverse h) ≡ leaves h
 releases_reversed [] = refl
-releases_reversed (s ∷ h) = ap (count_by (λ (x : Event). is_release x.1.call)) (reverse_cons s h) ∙ count_last (λ (x : Event). is_release x.1.call) (reverse h) s ∙ ap (λ n. n + cond (is_release s.1.call) 1 0) (releases_reversed h) ∙ release_one (leaves h) s.1.call
+releases_reversed (s ∷ h) = ap (count_by (λ (x : Event). is_release x.1.call)) (reverse_cons s h) ∙ count_last (λ (x : Event). is_release x.1.call) (reverse h) s ∙ ap (λ n. n + cond (is_release s.1.call) 1 0) (releases_reversed h) ∙ one_more (leaves h) (is_release s.1.call)
 
 -- ---- ticks and polls
 
@@ -95,7 +79,7 @@ rising_reversed h r = chain_reversed IsNotLater h (newest h r)
     newest [] r = tt
     newest (s ∷ k) r = (next_is s.1.tick s k refl r.1, newest k r.0)
 
-both_polls : (k j : Call) → is_poll j ≡ true → is_poll k ≡ true → are_polls k j ≡ true
+both_polls : (k j : Call) → is_poll j ≡ true → is_poll k ≡ true → (is_poll k && is_poll j) ≡ true
 both_polls (Poll b) (Poll d) e f = refl
 both_polls (Ask n) j e f = absurd (true≢false (sym f))
 both_polls Leave j e f = absurd (true≢false (sym f))
@@ -111,7 +95,7 @@ polls_reversed h t = chain_reversed PollsInOrder h (newest h t)
   where
     next_is : (s : Event) (k : List Event) → IsPollAfter s k → ToNext (λ x y. PollsInOrder y x) s k
     next_is s [] a = tt
-    next_is s (x ∷ k) a = λ e f. on_true (are_polls s.1.call x.1.call) _ (both_polls s.1.call x.1.call e f) a
+    next_is s (x ∷ k) a = λ e f. on_true (is_poll s.1.call && is_poll x.1.call) _ (both_polls s.1.call x.1.call e f) a
 
     newest : (k : List Event) → PollsNewest k → IsChain (λ x y. PollsInOrder y x) k
     newest [] t = tt

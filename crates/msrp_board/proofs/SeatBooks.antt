@@ -2,10 +2,7 @@
 -- loop.
 use Rattle.std.proofs.Common.{◌≡◌, ◌≢◌, ◌∷◌, ◌∙◌}
 use Rattle.msrp_plan.proofs.Common.{ℕ, zero, suc, List, [], Some, None, refl, sym, ap, slice_index_or}
-use Rattle.std.specs.declared.option.Option.{Option}
-use Rattle.msrp_board.specs.declared.books.Book.{Book}
-use Rattle.msrp_board.specs.Seats.{SeatModel, book_at, IsCoreSeat}
-use Rattle.msrp_board.specs.Steps.{only_at, none_at, either, together, alone, without, both}
+use Rattle.msrp_board.proofs.Common.{Book, IsCoreSeat, Option, SeatModel, alone, book_at, both, either, none_at, only_at, together, without}
 
 -- ---- over lists of any kind
 

@@ -2,20 +2,7 @@
 -- joined.
 use Rattle.std.proofs.Common.{◌==◌, ◌≡◌, ◌<◌, ◌∷◌, ◌∙◌}
 use Rattle.msrp_plan.proofs.Common.{⊎_elim, ℕ, zero, suc, List, [], map, not, Some, None, refl, sym, ap, subst, eq-eqb, ne_eqb, option_or, dite, ℕ_discrete}
-use Rattle.std.specs.Option.{option_map}
-use Rattle.std.specs.declared.option.Option.{Option}
-use Rattle.atomic_table.specs.Table.{Me}
-use Rattle.atomic_table.specs.Seated.{TableId}
-use Rattle.msrp_board.specs.declared.books.Book.{Book}
-use Rattle.msrp_board.specs.declared.books.BoardSize.{BoardSize}
-use Rattle.msrp_board.specs.declared.books.Conductor.{Conductor}
-use Rattle.msrp_board.specs.declared.states.States.{States}
-use Rattle.msrp_board.specs.declared.pages.Page.{Page}
-use Rattle.msrp_board.specs.declared.pages.View.{View}
-use Rattle.msrp_board.specs.Seats.{BoardModel, SeatModel}
-use Rattle.msrp_board.specs.Steps.{only_at, none_at, either, together, alone, without, both}
-use Rattle.msrp_board.specs.Inside.Rule.{IsKeptNewest, view_alone, view_without, view_both}
-use Rattle.msrp_board.specs.Inside.Held.{told, seen_as, page_at, state_of, state_at, kept_of, kept_if, AreStates, IsHeld}
+use Rattle.msrp_board.proofs.Common.{AreStates, BoardModel, BoardSize, Book, Conductor, IsHeld, IsKeptNewest, Me, Option, Page, SeatModel, States, TableId, View, alone, both, either, kept_if, kept_of, none_at, only_at, option_map, page_at, seen_as, state_at, state_of, together, told, view_alone, view_both, view_without, without}
 use Rattle.msrp_board.proofs.SeatBooks.{at-only_same, at-only_other, at-none_same, at-none_other, at-together}
 use Rattle.msrp_board.proofs.ViewParts.{of_only, of_none, of_together}
 

@@ -2,16 +2,8 @@
 -- call.
 use Rattle.std.proofs.Common.{◌==◌, ◌||◌, ◌≡◌, ◌≢◌, ◌<◌, ◌∷◌, ◌++◌, ◌∙◌}
 use Rattle.msrp_plan.proofs.Common.{ℕ, [], Bool, true, false, refl, sym, ap, subst, arith, eq-eqb, list_any, list_any-append, dite, ℕ_discrete, claim_after}
-use Rattle.msrp_plan.specs.declared.ids.ResId.{ResId}
-use Rattle.msrp_plan.specs.declared.units.Call.{Call}
-use Rattle.msrp_plan.specs.declared.units.Phase.{Phase}
-use Rattle.msrp_board.specs.declared.answers.SeatPhase.{SeatPhase}
-use Rattle.msrp_board.specs.declared.answers.SeatPhase.TheVariants.{Waiting, Admitted, Done, Stopped}
-use Rattle.msrp_board.specs.declared.books.Entry.{Entry}
-use Rattle.msrp_board.specs.declared.books.Book.{Book}
-use Rattle.msrp_board.specs.Books.{has_acted}
-use Rattle.msrp_board.specs.Seats.{BoardModel, SeatModel, MayAct}
-use Rattle.msrp_board.specs.Steps.{book_with_entry, with_entry}
+use Rattle.msrp_board.proofs.Common.{Admitted, BoardModel, Book, Call, Done, Entry, MayAct, Phase, ResId, SeatModel, SeatPhase, Waiting, book_with_entry, has_acted, with_entry}
+use Rattle.msrp_board.specs.declared.answers.SeatPhase.TheVariants.{Stopped}
 use Rattle.msrp_board.specs.SeatPorts.{calls_in, port_calls, room_by, room_in, port_room, IsPort, AddsCall}
 use Rattle.msrp_board.proofs.Told.{res_calls_last}
 use Rattle.msrp_board.proofs.CoreSeats.{core_changed}
@@ -41,10 +33,7 @@ port_acts board c k seat lock p room claims =
     let same = port_core board c k seat p room in
     let own = ap (port_room seat) same ∙ room_own board c seat p in
     record {
-      core = c;
-      book = p.book;
-      of_core = p.of_core;
-      stands = p.stands;
+      at = record { core = c; book = p.book; of_core = p.of_core; stands = p.stands };
       quiet = quiet_of Admitted (has_acted p.book) (omega (arith, room, own));
       claims = sym (ap (λ o. claim_after (calls_in o)) p.of_core.book) ∙ ap (λ j. claim_after (port_calls seat j)) (sym same) ∙ claims;
     }

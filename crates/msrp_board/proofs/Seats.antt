@@ -1,35 +1,8 @@
 -- What a call makes of a seat, as callers see it.
 use Rattle.msrp_plan.proofs.Common.{arith, ℕ, zero, suc, List, [], map, replicate, Bool, true, false, nat_lt, ltb, leb, Some, None, refl, sym, ap, subst, some, get_elem?}
-use Rattle.msrp_plan.specs.declared.ids.ResId.{ResId}
-use Rattle.msrp_plan.specs.declared.units.Call.{Call}
-use Rattle.msrp_plan.specs.declared.units.Phase.{Phase}
-use Rattle.msrp_plan.specs.declared.units.Phase.TheVariants.{Free, Queued, Holding}
+use Rattle.msrp_board.proofs.Common.{Admitted, AreBefore, AreStates, AtStart, BoardModel, BoardSize, Book, Call, Claim, Conductor, CoreState, Entry, Free, Go, HasEntered, HasOnly, Holding, Holds, IsBefore, IsBehind, IsBelow, IsClaimInTurn, IsCoreSeat, IsHeld, IsIn, IsKept, IsKeptNewest, IsOwn, IsSeat, IsSize, MayAct, Me, Nothing, Option, Page, Phase, Queued, ResId, SeatModel, SeatPhase, States, TableId, TicksNewest, Unopened, View, ViewIsBehind, Wait, Waiting, Waits, admissions_of, book_with_entry, claim_of, empty_book, empty_page, first_seat, first_view, has_acted, high, lock_of, look_if, look_of, low, on_resource, option_map, page_admissions, page_after_look, page_after_look_if, page_has_acted, page_with_entry, phase_by, phase_in, phase_of, seen_as, state_of, told, with_admission, with_books, with_entry, with_own, with_pages, with_stop}
 use Rattle.std.proofs.Common.{◌==◌, ◌≡◌, ◌+◌, ◌*◌, ◌<◌, ◌∷◌, ◌∙◌, ltb-true}
-use Rattle.std.specs.Option.{option_map}
-use Rattle.std.specs.declared.option.Option.{Option}
-use Rattle.atomic_table.specs.Table.{Me}
-use Rattle.atomic_table.specs.Seated.{TableId}
-use Rattle.msrp_board.specs.declared.answers.SeatPhase.{SeatPhase}
-use Rattle.msrp_board.specs.declared.answers.SeatPhase.TheVariants.{Waiting, Admitted}
-use Rattle.msrp_board.specs.declared.answers.Look.TheVariants.{Wait, Go, Stopped as Off}
-use Rattle.msrp_board.specs.declared.books.Book.{Book}
-use Rattle.msrp_board.specs.declared.books.BoardSize.{BoardSize}
-use Rattle.msrp_board.specs.declared.books.Conductor.{Conductor}
-use Rattle.msrp_board.specs.declared.books.Conductor.TheVariants.{Unopened}
-use Rattle.msrp_board.specs.declared.books.Entry.{Entry}
-use Rattle.msrp_board.specs.declared.held.Claim.{Claim}
-use Rattle.msrp_board.specs.declared.held.Claim.TheVariants.{Nothing, Waits, Holds}
-use Rattle.msrp_board.specs.declared.held.CoreState.{CoreState}
-use Rattle.msrp_board.specs.declared.states.States.{States}
-use Rattle.msrp_board.specs.declared.pages.Page.{Page}
-use Rattle.msrp_board.specs.declared.pages.View.{View}
-use Rattle.msrp_board.specs.Books.{IsSize, IsBefore, on_resource, admissions_of, phase_by, phase_in, has_acted, lock_of, AreBefore, IsKept}
-use Rattle.msrp_board.specs.Seats.{empty_book, first_seat, BoardModel, SeatModel, IsSeat, IsCoreSeat, MayAct, IsIn}
-use Rattle.msrp_board.specs.Steps.{with_admission, with_stop, book_with_entry, with_entry, with_books, IsBehind}
-use Rattle.msrp_board.specs.Words.{high, low}
-use Rattle.msrp_board.specs.Inside.Newest.{claim_of, IsClaimInTurn, TicksNewest}
-use Rattle.msrp_board.specs.Inside.Rule.{page_admissions, page_after_look_if, page_after_look, AtStart, empty_page, first_view, HasOnly, IsKeptNewest, HasEntered, page_has_acted, page_with_entry, with_pages, ViewIsBehind}
-use Rattle.msrp_board.specs.Inside.Held.{look_if, look_of, told, phase_of, seen_as, state_of, with_own, AreStates, IsOwn, IsBelow, IsHeld}
+use Rattle.msrp_board.specs.declared.answers.Look.TheVariants.{Stopped as Off}
 use Rattle.msrp_board.proofs.Start.{first_page}
 use Rattle.msrp_board.proofs.Lists.{reverse_cons, all_reversed, filter_reversed}
 use Rattle.msrp_board.proofs.Told.{lock_told, acted_told, page_of, sole_of}
@@ -90,15 +63,15 @@ pub record Acting (z : BoardSize) (held : States) (v : View) (lock : Phase) : Ty
 pub acting : (z : BoardSize) (t : TableId) (held : States) (o : Option Conductor) (me : Me (Unit {0}) View) (seat : SeatModel) (lock : Phase) → IsHeld z held o me → seen_as (named t z) me.0 ≡ seat → MayAct lock seat → Acting z held me.0 lock
 acting z t held o me seat lock s is may =
     let h : MayAct lock (seen_as (named t z) me.0) = subst (MayAct lock) (sym is) may in
-    let r = core_own z t held o me (seen_as (named t z) me.0) s refl h.core h.book h.of_core in
+    let r = core_own z t held o me (seen_as (named t z) me.0) s refl h.at.core h.at.book h.at.of_core in
     record {
-      core = h.core;
+      core = h.at.core;
       page = r.0;
       own = r.1;
-      room = (admitted_of r.0.stopped r.0.admitted (nat_lt r.0.tick z.ticks) (ap (phase_in z.ticks) r.2 ∙ h.stands)).1;
+      room = (admitted_of r.0.stopped r.0.admitted (nat_lt r.0.tick z.ticks) (ap (phase_in z.ticks) r.2 ∙ h.at.stands)).1;
       quiet = sym (acted_told r.0) ∙ ap has_acted r.2 ∙ h.quiet;
       claims = sym (lock_told r.0) ∙ ap lock_of r.2 ∙ h.claims;
-      kept = s.kept h.core r.0 r.1.only.page;
+      kept = s.kept h.at.core r.0 r.1.only.page;
     }
 
 -- the page of a core's seat that may act, where the state kept of the core is x, with the claim l

@@ -1,8 +1,7 @@
 -- What seats hold between them, when one is cut in two, and when two are joined.
 use Rattle.std.proofs.Common.{◌≡◌, ◌≢◌, ◌⊎◌, ◌<◌, ◌∷◌, ◌++◌, ◌∙◌}
 use Rattle.msrp_plan.proofs.Common.{inl, inr, ⊎_elim, ℕ, zero, suc, List, [], length, set, refl, sym, ap, subst, arith, some, some-injective, some-ne-none, dite, ℕ_discrete, get_elem?, length-set}
-use Rattle.atomic_table.proofs.Lists.{at_set, at_longer, at_last, set_here, set_else}
-use Rattle.msrp_board.specs.Inside.Rule.{OwnsBy, SharedBy}
+use Rattle.msrp_board.proofs.Common.{OwnsBy, SharedBy, at_last, at_longer, at_set, set_else, set_here}
 use Rattle.msrp_board.proofs.Queue.{in_range}
 
 at_end : {A : Type 0} (l : List A) (a b : A) (j : ℕ) → get_elem? (l ++ a ∷ []) j ≡ some b → ((j < length l) × (get_elem? l j ≡ some b)) ⊎ ((j ≡ length l) × (a ≡ b))

@@ -1,16 +1,11 @@
 -- Polls of one place stand by tick, then core: a new poll is put in among the newest.
 use Rattle.msrp_plan.proofs.Common.{eqb, cond, ltb, eq-eqb, ne_eqb, eqb-true, inl, inr, ℕ, suc, List, [], length, Bool, true, false, refl, sym, ap, subst, arith, dite, ℕ_discrete, Answers}
-use Rattle.msrp_plan.specs.declared.units.Call.{Call}
-use Rattle.msrp_plan.specs.declared.units.Call.TheVariants.{Ask, Poll, Leave}
+use Rattle.msrp_board.proofs.Common.{Ask, Call, Event, IsPollAfter, Leave, LegalNewest, NoneLater, OnTrue, PlacedNewest, Poll, PollsNewest, RisingNewest, asks, by_core, granted, granted_after, is_poll, leaves, queue}
 use Rattle.std.proofs.Common.{◌&&◌, ◌≡◌, ◌≢◌, ◌⊎◌, ◌<◌, ◌≤◌, ◌∷◌, ◌∙◌, ltb-true, ltb-false, true≢false}
-use Rattle.std.specs.Bool.{OnTrue}
-use Rattle.msrp_board.specs.History.{Event, by_core}
-use Rattle.msrp_board.specs.Inside.Newest.{asks, leaves, queue, granted, LegalNewest, PlacedNewest, NoneLater, RisingNewest, are_polls, IsPollAfter, PollsNewest}
-use Rattle.msrp_plan.specs.FifoLock.{granted_after}
 use Rattle.msrp_board.proofs.Queue.{by_other}
 
 abbrev pub jumps : Event → Event → Bool
-jumps r x = are_polls r.1.call x.1.call && (eqb r.1.tick x.1.tick && ltb r.0 x.0)
+jumps r x = (is_poll r.1.call && is_poll x.1.call) && (eqb r.1.tick x.1.tick && ltb r.0 x.0)
 
 abbrev choose : Bool → Event → Event → List Event → List Event → List Event
 choose true r x h l = x ∷ l
@@ -90,7 +85,7 @@ past c t g p b c' t' g' p' b' h l now low legal placed rising tidy i = record {
   under = λ x a e. a;
 }
 
-moved : (c t g p : ℕ) (k : Call) (c' t' g' p' : ℕ) (j : Call) (h l : List Event) → are_polls k j ≡ true → t ≡ t' → c < c' → LegalNewest (any c t g p k ∷ any c' t' g' p' j ∷ h) → PlacedNewest (any c t g p k ∷ any c' t' g' p' j ∷ h) → RisingNewest (any c t g p k ∷ any c' t' g' p' j ∷ h) → PollsNewest (any c' t' g' p' j ∷ h)
+moved : (c t g p : ℕ) (k : Call) (c' t' g' p' : ℕ) (j : Call) (h l : List Event) → (is_poll k && is_poll j) ≡ true → t ≡ t' → c < c' → LegalNewest (any c t g p k ∷ any c' t' g' p' j ∷ h) → PlacedNewest (any c t g p k ∷ any c' t' g' p' j ∷ h) → RisingNewest (any c t g p k ∷ any c' t' g' p' j ∷ h) → PollsNewest (any c' t' g' p' j ∷ h)
     → (LegalNewest (any c t g p k ∷ h) → PlacedNewest (any c t g p k ∷ h) → RisingNewest (any c t g p k ∷ h) → PollsNewest h → Inserted (any c t g p k) h l) → Inserted (any c t g p k) (any c' t' g' p' j ∷ h) (any c' t' g' p' j ∷ l)
 moved c t g p (Ask a) c' t' g' p' j h l e now low legal placed rising tidy ih = absurd (true≢false (sym e))
 moved c t g p (Poll b) c' t' g' p' (Ask a) h l e now low legal placed rising tidy ih = absurd (true≢false (sym e))
@@ -100,7 +95,7 @@ moved c t g p (Poll b) c' t' g' p' (Poll b') h l e now low legal placed rising t
     past c t g p b c' t' g' p' b' h l now low legal placed rising tidy
     (ih (legal.0.0, poll_earlier (queue h) (granted h) c b b' legal.1) (placed.0.0, placed.1) (rising.0.0, rising.1.1) tidy.0)
 
-not_jump : (k j : Call) (t u c d : ℕ) → u ≤ t → (are_polls k j && (eqb t u && ltb c d)) ≡ false → OnTrue (are_polls k j) ((u < t) ⊎ ((u ≡ t) × (d ≤ c)))
+not_jump : (k j : Call) (t u c d : ℕ) → u ≤ t → ((is_poll k && is_poll j) && (eqb t u && ltb c d)) ≡ false → OnTrue (is_poll k && is_poll j) ((u < t) ⊎ ((u ≡ t) × (d ≤ c)))
 not_jump (Ask a) j t u c d le e = tt
 not_jump (Poll p) (Ask a) t u c d le e = tt
 not_jump (Poll p) Leave t u c d le e = tt
@@ -116,8 +111,8 @@ inserted r (x ∷ h) legal placed rising tidy = by_test (jumps r x) refl (insert
     by_test : (b : Bool) → jumps r x ≡ b → (LegalNewest (r ∷ h) → PlacedNewest (r ∷ h) → RisingNewest (r ∷ h) → PollsNewest h → Inserted r h (insert r h)) → Inserted r (x ∷ h) (choose b r x h (insert r h))
     by_test false e ih = here r (x ∷ h) legal placed rising (tidy, not_jump r.1.call x.1.call r.1.tick x.1.tick r.0 x.0 rising.1.0 e)
     by_test true e ih =
-        let k = and_left (are_polls r.1.call x.1.call) (eqb r.1.tick x.1.tick && ltb r.0 x.0) e in
-        let m = and_right (are_polls r.1.call x.1.call) (eqb r.1.tick x.1.tick && ltb r.0 x.0) e in
+        let k = and_left (is_poll r.1.call && is_poll x.1.call) (eqb r.1.tick x.1.tick && ltb r.0 x.0) e in
+        let m = and_right (is_poll r.1.call && is_poll x.1.call) (eqb r.1.tick x.1.tick && ltb r.0 x.0) e in
         let now = eqb-true r.1.tick x.1.tick (and_left (eqb r.1.tick x.1.tick) (ltb r.0 x.0) m) in
         let low = ltb-true r.0 x.0 (and_right (eqb r.1.tick x.1.tick) (ltb r.0 x.0) m) in
         moved r.0 r.1.tick r.1.res.0 r.1.place r.1.call x.0 x.1.tick x.1.res.0 x.1.place x.1.call h (insert r h) k now low legal placed rising tidy ih

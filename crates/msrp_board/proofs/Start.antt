@@ -1,17 +1,8 @@
 -- The rule at the start.
 use Rattle.msrp_plan.proofs.Common.{ℕ, zero, suc, List, [], length, take, replicate, Some, None, eq-eqb, ne_eqb, refl, sym, ap, subst, arith, slice_index, some, some-injective, some-ne-none, dite, ℕ_discrete, get_elem?, same_Some}
 use Rattle.std.proofs.Common.{◌==◌, ◌≡◌, ◌≢◌, ◌+◌, ◌<◌, ◌≤◌, ◌∷◌, if◌then◌else◌, ◌∙◌, true≢false}
-use Rattle.atomic_table.specs.Table.{opening}
-use Rattle.msrp_board.specs.declared.pages.Page.{Page}
-use Rattle.msrp_board.specs.declared.pages.View.{View}
-use Rattle.msrp_board.specs.declared.books.BoardSize.{BoardSize}
-use Rattle.msrp_board.specs.declared.states.States.{States}
-use Rattle.msrp_board.specs.Books.{IsSize, on_resource}
-use Rattle.msrp_board.specs.Inside.Held.{AreStates, kept_of, state_of, state_at}
-use Rattle.msrp_board.specs.Inside.Rule.{HasPage, Ruled, IsKeptNewest, empty_page, first_view, arrivals, page_admissions}
-use Rattle.msrp_board.specs.declared.books.Conductor.TheVariants.{Unopened}
+use Rattle.msrp_board.proofs.Common.{AreStates, BoardSize, HasPage, IsKeptNewest, IsSize, Page, Ruled, States, Unopened, View, arrivals, dec_lt, empty_page, first_view, kept_of, on_resource, opening, page_admissions, state_at, state_of}
 use Rattle.msrp_board.proofs.Kept.{kept_empty}
-use native.Mathlib.Decide.{dec_lt}
 
 now_in : (n c : ℕ) → c < n → state_at (replicate n (Some empty_page)) c ≡ Some (state_of empty_page)
 now_in zero c h = absurd (omega (arith, h))

@@ -1,32 +1,15 @@
 -- A request, a poll and a release keep the rule.
-use Rattle.msrp_plan.proofs.Common.{eq-eqb, ne_eqb, inl, inr, ⊎_elim, ℕ, zero, suc, List, [], length, set, Some, Bool, true, false, refl, sym, ap, subst, arith, slice_index, some, none, some-injective, some-ne-none, dite, ℕ_discrete, get_elem?, mul-le, mod-mul-add, div-mul-add, length-set, get_or-set_same, get_or-set_other, Answers, IsAmong, IsFirst}
-use Rattle.msrp_plan.specs.declared.units.Call.{Call}
-use Rattle.msrp_plan.specs.declared.units.Call.TheVariants.{Ask, Poll, Leave}
+use Rattle.msrp_plan.proofs.Common.{cond, eq-eqb, ne_eqb, inl, inr, ⊎_elim, ℕ, zero, suc, List, [], length, set, Some, Bool, true, false, refl, sym, ap, subst, arith, slice_index, some, none, some-injective, some-ne-none, dite, ℕ_discrete, get_elem?, mul-le, mod-mul-add, div-mul-add, length-set, get_or-set_same, get_or-set_other, Answers, IsAmong, IsFirst, AllByRecursion}
+use Rattle.msrp_board.proofs.Common.{Allows, AreBefore, Ask, BoardSize, Call, Claim, Conductor, Entry, Event, Gathered, HasConductor, HasOnly, HasPage, Holds, IsBefore, IsClaimInTurn, IsKeptNewest, IsRegularNewest, IsServedNewest, IsTicketWord, Leave, Me, NoneLater, Nothing, Owns, Page, PlacedNewest, Poll, Ruled, Shared, State, Tells, TicksNewest, View, ViewIsBehind, Waits, abort_count, admissions_of, arrivals, asks, at_set, by_core, claim_of, dec_lt, granted, high, is_release, is_request, keeps, leaves, lock, low, on_resource, opening_count, page_admissions, page_has_acted, page_with, page_with_ask, page_with_leave, page_with_poll, queue, set_else, set_here, step, stepped, ticket_of, with_pages}
 use Rattle.std.proofs.Common.{◌==◌, ◌≡◌, ◌≢◌, ◌⊎◌, ◌+◌, ◌*◌, ◌%◌, ◌^◌, ◌-◌, ◌<◌, ◌≤◌, ◌∷◌, ◌∙◌, true≢false}
-use native.Mathlib.Decide.{dec_lt}
-use Rattle.atomic_table.specs.Table.{State, Me, step, keeps, stepped, Allows}
-use Rattle.atomic_table.proofs.Lists.{at_set, set_here, set_else}
-use Rattle.msrp_board.specs.declared.books.Entry.{Entry}
-use Rattle.msrp_board.specs.declared.pages.Page.{Page}
-use Rattle.msrp_board.specs.declared.pages.View.{View}
-use Rattle.msrp_board.specs.declared.books.BoardSize.{BoardSize}
-use Rattle.msrp_board.specs.Books.{on_resource, IsBefore, admissions_of, AreBefore}
-use Rattle.msrp_board.specs.History.{Event, by_core}
-use Rattle.msrp_board.specs.Inside.Newest.{lock, asks, leaves, asks_after, leaves_after, queue, granted, PlacedNewest, ticket_of, claim_of, IsClaimInTurn, IsRegularNewest, TicksNewest, NoneLater}
-use Rattle.msrp_board.specs.Boards.{opening_count, abort_count}
-use Rattle.msrp_board.specs.Words.{high, low}
-use Rattle.msrp_board.specs.Inside.Rule.{page_has_acted, page_with, arrivals, page_admissions, HasConductor, Gathered, HasPage, Owns, Shared, IsTicketWord, IsServedNewest, IsKeptNewest, Ruled, HasOnly, page_with_ask, with_pages, page_with_poll, page_with_leave, ViewIsBehind, TellsAsk, TellsPoll, TellsLeave}
-use Rattle.msrp_board.specs.declared.held.Claim.{Claim}
-use Rattle.msrp_board.specs.declared.held.Claim.TheVariants.{Nothing, Waits, Holds}
 use Rattle.msrp_board.proofs.Queue.{at_first, among, not_among, not_first, Coupled, coupled, ticket, held, by_same, by_other, by_cases, in_range}
 use Rattle.msrp_board.proofs.Counts.{at, pick, claim_on, on_same, on_other, total_more, total_bound, ticks_length, arrivals_set}
 use Rattle.msrp_board.proofs.Sharing.{same_shared}
 use Rattle.msrp_board.proofs.CoreStates.{each_some, each_at}
 use Rattle.msrp_board.proofs.Kept.{kept_more, fresh_page}
 use Rattle.msrp_board.proofs.Sorted.{insert, inserted}
-use Rattle.msrp_board.specs.declared.books.Conductor.{Conductor}
 
-steps_more : (k : Call) (h : List Event) (r : Event) → asks h + leaves h ≤ length h → asks_after (asks h) k + leaves_after (leaves h) k ≤ length (r ∷ h)
+steps_more : (k : Call) (h : List Event) (r : Event) → asks h + leaves h ≤ length h → cond (is_request k) (suc (asks h)) (asks h) + cond (is_release k) (suc (leaves h)) (leaves h) ≤ length (r ∷ h)
 steps_more (Ask a) h r q = omega (arith, q)
 steps_more (Poll p) h r q = omega (arith, q)
 steps_more Leave h r q = omega (arith, q)
@@ -156,8 +139,7 @@ gathered_same n c books b d o has tick adm stop g = record {
         (at_set books c x d y h)
 
 abbrev EachUpTo : ℕ → List Entry → Type 0
-EachUpTo t [] = Unit {0}
-EachUpTo t (e ∷ es) = (e.tick ≤ t) × EachUpTo t es
+EachUpTo t es = AllByRecursion (λ e. e.tick ≤ t) es
 
 -- no entry of g is later than the tick to which a core is admitted
 ticks_on : (t r g : ℕ) (es : List Entry) → TicksNewest r es → r ≤ suc t → EachUpTo t (on_resource g es)
@@ -223,7 +205,7 @@ before_more p q (e ∷ es) h a = (one e.place e.call a.0, before_more p q es h a
     one x Leave b = omega (arith, b, h)
 
 before_one : (h : List Event) (c t g p : ℕ) (k : Call) → p ≡ asks h + leaves h → ((d : ℕ) → AreBefore (asks h + leaves h) (by_core d h))
-    → (d : ℕ) → AreBefore (asks_after (asks h) k + leaves_after (leaves h) k) (by_core d ((c, record { tick = t; res = record { 0 = g }; place = p; call = k }) ∷ h))
+    → (d : ℕ) → AreBefore (cond (is_request k) (suc (asks h)) (asks h) + cond (is_release k) (suc (leaves h)) (leaves h)) (by_core d ((c, record { tick = t; res = record { 0 = g }; place = p; call = k }) ∷ h))
 before_one h c t g p k is old d = by_cases c d new h (AreBefore now)
     (λ _. ((up k).1, before_more (asks h + leaves h) now (by_core d h) (up k).0 (old d)))
     (λ _. before_more (asks h + leaves h) now (by_core d h) (up k).0 (old d))
@@ -232,9 +214,9 @@ before_one h c t g p k is old d = by_cases c d new h (AreBefore now)
     new = record { tick = t; res = record { 0 = g }; place = p; call = k }
 
     now : ℕ
-    now = asks_after (asks h) k + leaves_after (leaves h) k
+    now = cond (is_request k) (suc (asks h)) (asks h) + cond (is_release k) (suc (leaves h)) (leaves h)
 
-    up : (j : Call) → (asks h + leaves h ≤ asks_after (asks h) j + leaves_after (leaves h) j) × IsBefore j p (asks_after (asks h) j + leaves_after (leaves h) j)
+    up : (j : Call) → (asks h + leaves h ≤ cond (is_request j) (suc (asks h)) (asks h) + cond (is_release j) (suc (leaves h)) (leaves h)) × IsBefore j p (cond (is_request j) (suc (asks h)) (asks h) + cond (is_release j) (suc (leaves h)) (leaves h))
     up (Ask a) = (omega arith, omega (arith, is))
     up (Poll a) = (omega arith, omega (arith, is))
     up Leave = (omega arith, omega (arith, is))
@@ -298,7 +280,7 @@ unacted : (z : BoardSize) (id c : ℕ) (v : View) (b : Page) (s : State (Unit {0
 unacted z id c v b s r at_id sole room quiet = fresh_page z b (r.tied.kept c b (r.shared.true_of id c b (v, at_id, sole.page))) room quiet
 
 pub asks_allowed : (z : BoardSize) (slots id : ℕ) (me : Me (Unit {0}) View) (g c : ℕ) (b : Page) → g < z.resources → HasOnly me.0 c b → b.admitted ≡ true → page_has_acted b ≡ false → claim_of b.newest ≡ Nothing
-    → Allows (Ruled z) slots id me g (λ n. (n + 4294967296) % 2 ^ 64) (TellsAsk (step slots g 4294967296 0 none) me)
+    → Allows (Ruled z) slots id me g (λ n. (n + 4294967296) % 2 ^ 64) (Tells page_with_ask (step slots g 4294967296 0 none) me)
 asks_allowed z slots id me g c b in_g sole room quiet free s r _ at_id fits =
     let fresh = unacted z id c me.0 b s r at_id sole room quiet in
     let n = slice_index s.words g in
@@ -332,7 +314,7 @@ not_held h c g t k is first false e = refl
 not_held h c g t k is first true e = let y = k.holder e in absurd (true≢false (sym y.2 ∙ ap (λ d. held (claim_of (by_core d h))) (some-injective y.0 c (sym y.1 ∙ first)) ∙ ap held is))
 
 pub polls_allowed : (z : BoardSize) (slots id : ℕ) (me : Me (Unit {0}) View) (g c t : ℕ) (b : Page) → g < z.resources → HasOnly me.0 c b → b.admitted ≡ true → page_has_acted b ≡ false → claim_of b.newest ≡ Waits g t
-    → Allows (Ruled z) slots id me g (λ n. n) (TellsPoll (step slots g 0 0 none) me)
+    → Allows (Ruled z) slots id me g (λ n. n) (Tells page_with_poll (step slots g 0 0 none) me)
 polls_allowed z slots id me g c t b in_g sole room quiet waits s r _ at_id fits =
     let fresh = unacted z id c me.0 b s r at_id sole room quiet in
     let n = slice_index s.words g in
@@ -358,7 +340,7 @@ polls_allowed z slots id me g c t b in_g sole room quiet waits s r _ at_id fits 
         where_is = k.queue_of.stands c t (ap ticket mine)
 
 pub leaves_allowed : (z : BoardSize) (slots id : ℕ) (me : Me (Unit {0}) View) (g c t : ℕ) (b : Page) → g < z.resources → HasOnly me.0 c b → b.admitted ≡ true → page_has_acted b ≡ false → claim_of b.newest ≡ Holds g t
-    → Allows (Ruled z) slots id me g (λ n. (n + 1) % 2 ^ 64) (TellsLeave (step slots g 1 0 none) me)
+    → Allows (Ruled z) slots id me g (λ n. (n + 1) % 2 ^ 64) (Tells page_with_leave (step slots g 1 0 none) me)
 leaves_allowed z slots id me g c t b in_g sole room quiet holds s r _ at_id fits =
     let fresh = unacted z id c me.0 b s r at_id sole room quiet in
     let n = slice_index s.words g in

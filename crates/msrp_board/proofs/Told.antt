@@ -1,24 +1,7 @@
 -- A page as callers see it: what it says of its core is what the book says.
 use Rattle.std.proofs.Common.{◌++◌, ◌==◌, ◌||◌, ◌≡◌, ◌∷◌, ◌∙◌}
 use Rattle.msrp_plan.proofs.Common.{nat_lt, ℕ, zero, suc, List, [], map, reverse, Bool, true, false, Some, None, refl, sym, ap, slice_index_or, list_any, list_any-append, some, get_elem?, ResCall, claim_with, claim_after}
-use Rattle.msrp_plan.specs.declared.units.Call.{Call}
-use Rattle.msrp_plan.specs.declared.units.Call.TheVariants.{Ask, Poll, Leave}
-use Rattle.msrp_plan.specs.declared.units.Phase.{Phase}
-use Rattle.msrp_plan.specs.declared.units.Phase.TheVariants.{Free}
-use Rattle.std.specs.Option.{option_map, is_some}
-use Rattle.std.specs.declared.option.Option.{Option}
-use Rattle.msrp_board.specs.declared.books.Entry.{Entry}
-use Rattle.msrp_board.specs.declared.books.Book.{Book}
-use Rattle.msrp_board.specs.declared.pages.Page.{Page}
-use Rattle.msrp_board.specs.declared.pages.View.{View}
-use Rattle.msrp_board.specs.declared.held.Claim.{Claim}
-use Rattle.msrp_board.specs.declared.held.CoreState.{CoreState}
-use Rattle.msrp_board.specs.declared.states.States.{States}
-use Rattle.msrp_board.specs.Books.{res_calls, phase_by, phase_in, lock_of, has_acted}
-use Rattle.msrp_board.specs.Seats.{BoardModel, IsCoreSeat}
-use Rattle.msrp_board.specs.Inside.Newest.{claim_of, claim_with_call}
-use Rattle.msrp_board.specs.Inside.Rule.{HasOnly, page_has_acted}
-use Rattle.msrp_board.specs.Inside.Held.{told, phase_of, page_at, seen_as, state_of, kept_of, AreStates, Shows}
+use Rattle.msrp_board.proofs.Common.{AreStates, Ask, BoardModel, Book, Call, Claim, CoreState, Entry, Free, HasOnly, IsCoreSeat, Leave, Option, Page, Phase, Poll, Shows, States, View, claim_of, claim_with_call, has_acted, is_some, kept_of, lock_of, option_map, page_at, page_has_acted, phase_by, phase_in, phase_of, res_calls, seen_as, state_of, told}
 use Rattle.msrp_board.proofs.Lists.{reverse_cons, fold_last}
 use Rattle.msrp_board.proofs.CoreStates.{has_page, page_has}
 

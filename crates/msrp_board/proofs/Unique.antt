@@ -2,11 +2,7 @@
 -- history.
 use Rattle.std.proofs.Common.{◌≡◌, ◌≢◌, ◌⊎◌, ◌<◌, ◌≤◌, ◌∷◌, ◌∙◌}
 use Rattle.msrp_plan.proofs.Common.{inl, inr, ℕ, true, cond, List, [], refl, ap, sym, subst, arith, eq-eqb, ne_eqb, AllByRecursion, dite, ℕ_discrete, all_weaker}
-use Rattle.msrp_plan.specs.declared.units.Call.{Call}
-use Rattle.msrp_plan.specs.declared.units.Call.TheVariants.{Ask, Poll, Leave}
-use Rattle.msrp_board.specs.declared.books.Entry.{Entry}
-use Rattle.msrp_board.specs.Books.{on_resource, IsChain}
-use Rattle.msrp_board.specs.History.{Event, by_core, is_poll, place_after, Placed, PollsInOrder, IsHistory}
+use Rattle.msrp_board.proofs.Common.{Ask, Call, Entry, Event, IsChain, IsHistory, Leave, Placed, Poll, PollsInOrder, by_core, is_poll, on_resource, place_after}
 
 -- ---- an order by parts
 

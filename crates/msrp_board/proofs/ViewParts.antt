@@ -1,14 +1,7 @@
 -- A view cut in two, and two views joined.
 use Rattle.std.proofs.Common.{◌≡◌, ◌≢◌, ◌⊎◌, ◌∷◌, ◌∙◌}
 use Rattle.msrp_plan.proofs.Common.{inl, inr, ⊎_elim, ℕ, zero, suc, List, [], Some, None, refl, sym, ap, arith, some, some-injective, some-ne-none, get_elem?}
-use Rattle.std.specs.declared.option.Option.{Option}
-use Rattle.atomic_table.specs.Table.{Splits, Joins}
-use Rattle.msrp_board.specs.declared.pages.Page.{Page}
-use Rattle.msrp_board.specs.declared.pages.View.{View}
-use Rattle.msrp_board.specs.declared.books.BoardSize.{BoardSize}
-use Rattle.msrp_board.specs.declared.books.Conductor.{Conductor}
-use Rattle.msrp_board.specs.Steps.{only_at, none_at, either, together}
-use Rattle.msrp_board.specs.Inside.Rule.{HasConductor, HasPage, Ruled, view_without, view_alone, view_both, spent}
+use Rattle.msrp_board.proofs.Common.{BoardSize, Conductor, HasConductor, HasPage, Joins, Option, Page, Ruled, Splits, View, either, none_at, only_at, spent, together, view_alone, view_both, view_without}
 use Rattle.msrp_board.proofs.Sharing.{split_shared, join_shared}
 use Rattle.msrp_board.proofs.CoreStates.{page_or_none}
 

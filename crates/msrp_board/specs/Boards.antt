@@ -1,11 +1,7 @@
 -- The rule of a board, on its words and the books of all seats, between any two steps.
 use Rattle.msrp_plan.specs.Common.{ℕ, List, length, true, slice_index, Some, slice_get, slice_index_or}
 use Rattle.std.specs.Prelude.{◌≡◌, ◌+◌, ◌<◌, ◌≤◌, sum_by}
-use Rattle.msrp_board.specs.declared.books.Entry.{Entry}
-use Rattle.msrp_board.specs.declared.books.Book.{Book}
-use Rattle.msrp_board.specs.declared.books.BoardSize.{BoardSize}
-use Rattle.msrp_board.specs.declared.books.Conductor.{Conductor}
-use Rattle.msrp_board.specs.declared.books.Conductor.TheVariants.{Unopened, Opened, Aborted}
+use Rattle.msrp_board.specs.Common.{Aborted, BoardSize, Book, Conductor, Entry, Opened}
 use Rattle.msrp_board.specs.Books.{IsSize, admissions, IsKept}
 use Rattle.msrp_board.specs.History.{Event, IsServed}
 use Rattle.msrp_board.specs.Words.{high, low}
@@ -26,15 +22,13 @@ entries_at books c = (slice_index_or books c empty_book).entries
 
 -- 1 after the opening
 abbrev pub opening_count : Conductor → ℕ
-opening_count Unopened = 0
 opening_count Opened = 1
-opening_count Aborted = 0
+opening_count _ = 0
 
 -- 1 after an abort
 abbrev pub abort_count : Conductor → ℕ
-abort_count Unopened = 0
-abort_count Opened = 0
 abort_count Aborted = 1
+abort_count _ = 0
 
 -- the rule of a board's words and of the books of all its seats
 pub record IsTied (s : WholeBoard) : Type 0 where

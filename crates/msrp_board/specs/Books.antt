@@ -1,16 +1,9 @@
 -- What a book says of its core, and the rule's part on one book. The oldest entry is first.
 use Rattle.std.specs.Prelude.{◌<◌, ◌≤◌, ◌∷◌, ◌==◌, if◌then◌else◌}
 use Rattle.msrp_plan.specs.Common.{ℕ, suc, List, [], Bool, true, false, nat_lt, map, ⊤, list_any, filter, AllByRecursion, ResCall, claim_after, most_cores, most_resources}
-use Rattle.msrp_plan.specs.declared.units.Call.{Call}
-use Rattle.msrp_plan.specs.declared.units.Call.TheVariants.{Ask, Poll, Leave}
-use Rattle.msrp_plan.specs.declared.units.Phase.{Phase}
+use Rattle.msrp_board.specs.Common.{Admitted, BoardSize, Book, Call, Done, Entry, Phase, Poll, SeatPhase, Stopped, Waiting}
 use Rattle.msrp_plan.specs.Calls.{IsRegular}
 use Rattle.msrp_plan.specs.Limits.{most_ticks}
-use Rattle.msrp_board.specs.declared.books.Entry.{Entry}
-use Rattle.msrp_board.specs.declared.books.Book.{Book}
-use Rattle.msrp_board.specs.declared.books.BoardSize.{BoardSize}
-use Rattle.msrp_board.specs.declared.answers.SeatPhase.{SeatPhase}
-use Rattle.msrp_board.specs.declared.answers.SeatPhase.TheVariants.{Waiting, Admitted, Done, Stopped}
 
 -- the numbers that a board is made for
 pub record IsSize (size : BoardSize) : Type 0 where
@@ -60,9 +53,8 @@ admissions b = admissions_of b.admitted b.tick
 -- a call at place p is before a later one of the same core at place q: a request and a release take
 -- their place, and a poll reads one
 abbrev pub IsBefore : Call → ℕ → ℕ → Type 0
-IsBefore (Ask n) p q = p < q
 IsBefore (Poll granted) p q = p ≤ q
-IsBefore Leave p q = p < q
+IsBefore _ p q = p < q
 
 -- all these entries are before a later one at this place
 abbrev pub AreBefore : ℕ → List Entry → Type 0

@@ -1,12 +1,7 @@
 -- Boards of two cores and one resource that violate one line of the rule each, mostly opened.
 use Rattle.std.specs.Prelude.{◌∷◌}
 use Rattle.msrp_plan.specs.Common.{ℕ, List, [], true, false, replicate}
-use Rattle.msrp_plan.specs.declared.units.Call.{Call}
-use Rattle.msrp_plan.specs.declared.units.Call.TheVariants.{Ask, Poll, Leave}
-use Rattle.msrp_board.specs.declared.books.Book.{Book}
-use Rattle.msrp_board.specs.declared.books.BoardSize.{BoardSize}
-use Rattle.msrp_board.specs.declared.books.Conductor.TheVariants.{Aborted, Opened}
-use Rattle.msrp_board.specs.declared.books.Entry.{Entry}
+use Rattle.msrp_board.specs.Common.{Aborted, Ask, BoardSize, Book, Call, Entry, Leave, Opened, Poll}
 use Rattle.msrp_board.specs.Boards.{WholeBoard}
 use Rattle.msrp_board.specs.Words.{ticket_word}
 use Rattle.msrp_board.specs.Seats.{empty_book}

@@ -4,9 +4,7 @@
 -- linearization point is its instruction on the ticket word, at its place.
 use Rattle.std.specs.Prelude.{◌≡◌, ◌<◌, ◌≤◌, ◌∷◌, ◌==◌, ◌⊎◌, if◌then◌else◌}
 use Rattle.msrp_plan.specs.Common.{ℕ, suc, List, [], map, Bool, true, false, count_by, ⊤, Legal}
-use Rattle.msrp_plan.specs.declared.units.Call.{Call}
-use Rattle.msrp_plan.specs.declared.units.Call.TheVariants.{Ask, Poll, Leave}
-use Rattle.msrp_board.specs.declared.books.Entry.{Entry}
+use Rattle.msrp_board.specs.Common.{Ask, Call, Entry, Leave, Poll}
 use Rattle.msrp_board.specs.Words.{high, low}
 use Rattle.msrp_board.specs.Books.{on_resource, IsChain}
 
@@ -26,26 +24,22 @@ calls h = map (λ s. (s.0, s.1.call)) h
 -- the call is a request
 abbrev pub is_request : Call → Bool
 is_request (Ask n) = true
-is_request (Poll granted) = false
-is_request Leave = false
+is_request _ = false
 
 -- the call is a poll
 abbrev pub is_poll : Call → Bool
-is_poll (Ask n) = false
 is_poll (Poll granted) = true
-is_poll Leave = false
+is_poll _ = false
 
 -- the call is a release
 abbrev pub is_release : Call → Bool
-is_release (Ask n) = false
-is_release (Poll granted) = false
 is_release Leave = true
+is_release _ = false
 
 -- a request and a release take a place, a poll reads one and takes none
 abbrev pub place_after : ℕ → Call → ℕ
-place_after p (Ask n) = suc p
 place_after p (Poll granted) = p
-place_after p Leave = suc p
+place_after p _ = suc p
 
 -- the place of each event is p and the number of requests and releases before it
 abbrev pub Placed : ℕ → List Event → Type 0

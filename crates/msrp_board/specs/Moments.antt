@@ -1,9 +1,7 @@
 -- A board between two steps: its words, and what each of its seats has.
 use Rattle.std.specs.Prelude.{◌≡◌}
 use Rattle.msrp_plan.specs.Common.{ℕ, List, Some, slice_get, slice_index, take}
-use Rattle.msrp_board.specs.declared.books.Book.{Book}
-use Rattle.msrp_board.specs.declared.books.BoardSize.{BoardSize}
-use Rattle.msrp_board.specs.declared.books.Conductor.{Conductor}
+use Rattle.msrp_board.specs.Common.{BoardSize, Book, Conductor}
 use Rattle.msrp_board.specs.Seats.{SeatModel, book_at}
 use Rattle.msrp_board.specs.Boards.{WholeBoard, IsTied}
 

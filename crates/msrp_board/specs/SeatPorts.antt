@@ -1,13 +1,8 @@
 -- A port over a core's seat: what was asked through the seat, and how often its core may still call
 -- in its tick. For code that makes a core's calls through a port.
 use Rattle.std.specs.Prelude.{◌≡◌, ◌≢◌, ◌+◌, ◌∷◌, ◌++◌}
-use Rattle.msrp_plan.specs.Common.{ℕ, List, [], Bool, true, false, Some, None, ResCall}
-use Rattle.msrp_plan.specs.declared.ids.ResId.{ResId}
-use Rattle.msrp_plan.specs.declared.units.Call.{Call}
-use Rattle.std.specs.declared.option.Option.{Option}
-use Rattle.msrp_board.specs.declared.answers.SeatPhase.{SeatPhase}
-use Rattle.msrp_board.specs.declared.answers.SeatPhase.TheVariants.{Waiting, Admitted, Done, Stopped}
-use Rattle.msrp_board.specs.declared.books.Book.{Book}
+use Rattle.msrp_plan.specs.Common.{ℕ, List, [], Bool, false, Some, None, ResCall}
+use Rattle.msrp_board.specs.Common.{Admitted, Book, Call, Option, ResId, SeatPhase}
 use Rattle.msrp_board.specs.Books.{res_calls, phase_in, has_acted}
 use Rattle.msrp_board.specs.Seats.{BoardModel, SeatModel, book_at, IsCoreSeat}
 
@@ -22,11 +17,8 @@ port_calls seat c = calls_in (book_at seat c)
 
 -- one call for a core that is let into its tick and hasn't acted in it; otherwise none
 abbrev pub room_by : SeatPhase → Bool → ℕ
-room_by Waiting acted = 0
-room_by Admitted true = 0
 room_by Admitted false = 1
-room_by Done acted = 0
-room_by Stopped acted = 0
+room_by _ _ = 0
 
 -- how many calls the core of a book may still make in its tick
 abbrev pub room_in : ℕ → Option Book → ℕ

@@ -1,15 +1,7 @@
 -- What callers see of a board and a seat, what holds of every seat, and what each call requires.
 use Rattle.std.specs.Prelude.{◌≡◌, ◌<◌, ◌⊎◌}
 use Rattle.msrp_plan.specs.Common.{ℕ, List, [], false, replicate, Some, None, IsSome, slice_index_or}
-use Rattle.msrp_plan.specs.declared.units.Phase.{Phase}
-use Rattle.std.specs.declared.option.Option.{Option}
-use Rattle.atomic_table.specs.Seated.{TableId}
-use Rattle.msrp_board.specs.declared.answers.SeatPhase.{SeatPhase}
-use Rattle.msrp_board.specs.declared.answers.SeatPhase.TheVariants.{Admitted}
-use Rattle.msrp_board.specs.declared.books.Book.{Book}
-use Rattle.msrp_board.specs.declared.books.BoardSize.{BoardSize}
-use Rattle.msrp_board.specs.declared.books.Conductor.{Conductor}
-use Rattle.msrp_board.specs.declared.books.Conductor.TheVariants.{Unopened}
+use Rattle.msrp_board.specs.Common.{Admitted, BoardSize, Book, Conductor, Option, Phase, SeatPhase, TableId, Unopened}
 use Rattle.msrp_board.specs.Books.{IsSize, lock_of, has_acted, phase_in, IsKept}
 
 -- the identity of a board, and its size
@@ -67,12 +59,9 @@ pub record IsIn (phase : SeatPhase) (seat : SeatModel) : Type 0 where
 
 -- a core's seat that is admitted to its tick, has not acted in it, and holds or awaits this
 pub record MayAct (lock : Phase) (seat : SeatModel) : Type 0 where
-  pub core : ℕ
-  pub book : Book
-  pub of_core : IsCoreSeat seat core book
-  pub stands : phase_in seat.board.size.ticks book ≡ Admitted
-  pub quiet : has_acted book ≡ false
-  pub claims : lock_of book ≡ lock
+  pub at : IsIn Admitted seat
+  pub quiet : has_acted at.book ≡ false
+  pub claims : lock_of at.book ≡ lock
 
 -- a core's seat that is admitted to its tick and has not acted in it, whatever it holds or awaits
 abbrev pub IsFresh : SeatModel → Type 0

@@ -1,12 +1,7 @@
 -- What each step of a board does to the seat that makes it.
 use Rattle.std.specs.Prelude.{◌≡◌, ◌∷◌, ◌++◌}
 use Rattle.msrp_plan.specs.Common.{ℕ, zero, suc, List, [], true, false, map, Some, None}
-use Rattle.msrp_plan.specs.declared.ids.ResId.{ResId}
-use Rattle.msrp_plan.specs.declared.units.Call.{Call}
-use Rattle.std.specs.Option.{option_map}
-use Rattle.std.specs.declared.option.Option.{Option}
-use Rattle.msrp_board.specs.declared.books.Book.{Book}
-use Rattle.msrp_board.specs.declared.books.Conductor.{Conductor}
+use Rattle.msrp_board.specs.Common.{Book, Call, Conductor, Option, ResId, option_map}
 use Rattle.msrp_board.specs.Books.{on_resource, AreBefore}
 use Rattle.msrp_board.specs.Seats.{SeatModel, book_at}
 

@@ -1,14 +1,10 @@
 //! The board and its calls. Only [`Board::new`] allocates, and none waits for another thread.
 ghost use Rattle.std.specs.Prelude.{◌≡◌, ◌<◌, ◌↔◌};
 ghost use Rattle.msrp_plan.specs.Common.{ℕ, Some, IfOk, IsSome};
-ghost use Rattle.msrp_plan.specs.declared.ids.ResId.{ResId};
-ghost use Rattle.msrp_plan.specs.declared.units.Call.TheVariants.{Ask, Poll, Leave};
+ghost use Rattle.msrp_board.specs.Common.{Aborted, Admitted, Ask, Book, Leave, Opened, Poll, ResId, Unopened, Waiting};
 ghost use Rattle.msrp_plan.specs.declared.units.Phase.TheVariants.{Free, Queued, Holding};
 ghost use Rattle.msrp_board.specs.declared.answers.BoardError.TheVariants.{B1};
 ghost use Rattle.msrp_board.specs.declared.answers.Look.TheVariants.{Wait, Go, Stopped};
-ghost use Rattle.msrp_board.specs.declared.answers.SeatPhase.TheVariants.{Waiting, Admitted};
-ghost use Rattle.msrp_board.specs.declared.books.Book.{Book};
-ghost use Rattle.msrp_board.specs.declared.books.Conductor.TheVariants.{Unopened, Opened, Aborted};
 ghost use Rattle.msrp_board.specs.Books.{IsSize};
 ghost use Rattle.msrp_board.specs.Seats.{book_at, IsCoreSeat, IsIn, MayAct, HasAnother, first_seat};
 ghost use Rattle.msrp_board.specs.Moments.{StandsIn};
@@ -268,18 +264,12 @@ impl Board {
             states,
             conductor,
         } = seat;
-        let BoardSeat {
-            table_seat: other_seat,
-            size: _,
-            states: other_states,
-            conductor: other_conductor,
-        } = other;
-        steps::join(&self.table.shared, &mut table_seat, other_seat);
+        steps::join(&self.table.shared, &mut table_seat, other.table_seat);
         BoardSeat {
             table_seat,
             size,
-            states: states.and(other_states),
-            conductor: conductor.or(other_conductor),
+            states: states.and(other.states),
+            conductor: conductor.or(other.conductor),
         }
     }
 

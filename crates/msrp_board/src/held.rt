@@ -1,8 +1,7 @@
 //! What a seat stores of a core whose book it has: enough for its readers, without the entries.
 ghost use Rattle.std.specs.Prelude.{◌≡◌, ◌<◌, ◌+◌, ◌-◌};
 ghost use Rattle.msrp_plan.specs.Common.{ℕ, suc, nat_lt};
-ghost use Rattle.msrp_plan.specs.declared.units.Call.TheVariants.{Ask, Poll, Leave};
-ghost use Rattle.msrp_board.specs.declared.pages.Page.{Page};
+ghost use Rattle.msrp_board.specs.Common.{Ask, Leave, Page, Poll};
 ghost use Rattle.msrp_board.specs.Books.{phase_by};
 ghost use Rattle.msrp_board.specs.Inside.Held.{state_of, phase_of, look_of};
 ghost use Rattle.msrp_board.specs.Inside.Newest.{TicksNewest};

@@ -1,11 +1,7 @@
 //! Laws over the board's definitions. Each function does nothing; its contract is the law.
 ghost use Rattle.std.specs.Prelude.{◌≡◌};
 ghost use Rattle.msrp_plan.specs.Common.{[], map, false};
-ghost use Rattle.atomic_table.specs.Table.{State};
-ghost use Rattle.msrp_board.specs.declared.pages.View.{View};
-ghost use Rattle.msrp_board.specs.declared.answers.SeatPhase.TheVariants.{Waiting};
-ghost use Rattle.msrp_board.specs.declared.books.Book.{Book};
-ghost use Rattle.msrp_board.specs.declared.books.BoardSize.{BoardSize};
+ghost use Rattle.msrp_board.specs.Common.{BoardSize, Book, State, View, Waiting};
 ghost use Rattle.msrp_board.specs.Books.{IsKept, phase_in, has_acted};
 ghost use Rattle.msrp_board.specs.History.{HistoryIsUnique};
 ghost use Rattle.msrp_board.specs.Seats.{BoardModel};

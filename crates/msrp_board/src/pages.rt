@@ -35,27 +35,27 @@ impl TableRule<(), View, BoardSize> for Tickets {
 pub(crate) struct Asks;
 
 impl Play<(), View> for Asks {
-    ghost use Rattle.msrp_board.specs.Inside.Rule.{TellsAsk};
+    ghost use Rattle.msrp_board.specs.Inside.Rule.{Tells, page_with_ask};
 
-    ghost then = { TellsAsk };
+    ghost then = { Tells page_with_ask };
 }
 
 /// The step of a poll.
 pub(crate) struct Polls;
 
 impl Play<(), View> for Polls {
-    ghost use Rattle.msrp_board.specs.Inside.Rule.{TellsPoll};
+    ghost use Rattle.msrp_board.specs.Inside.Rule.{Tells, page_with_poll};
 
-    ghost then = { TellsPoll };
+    ghost then = { Tells page_with_poll };
 }
 
 /// The step of a release.
 pub(crate) struct Leaves;
 
 impl Play<(), View> for Leaves {
-    ghost use Rattle.msrp_board.specs.Inside.Rule.{TellsLeave};
+    ghost use Rattle.msrp_board.specs.Inside.Rule.{Tells, page_with_leave};
 
-    ghost then = { TellsLeave };
+    ghost then = { Tells page_with_leave };
 }
 
 /// Names a number in a step's rule that its view doesn't have: a core, or the number of cores.
@@ -108,9 +108,9 @@ impl Join<View> for Both {
 pub(crate) struct Arrives;
 
 impl Play<(), View> for Arrives {
-    ghost use Rattle.msrp_board.specs.Inside.Rule.{TellsArrival};
+    ghost use Rattle.msrp_board.specs.Inside.Rule.{TellsChange, page_with_arrival, with_pages};
 
-    ghost then = { TellsArrival };
+    ghost then = { TellsChange (with_pages page_with_arrival) };
 }
 
 /// The step of a look, on a board of `N` cores.
@@ -139,18 +139,20 @@ impl<Z: OfSize> Play<(), View> for Confirms<Z> {
 pub(crate) struct Opens;
 
 impl Play<(), View> for Opens {
-    ghost use Rattle.msrp_board.specs.Inside.Rule.{TellsOpening};
+    ghost use Rattle.msrp_board.specs.Common.{Opened};
+    ghost use Rattle.msrp_board.specs.Inside.Rule.{TellsChange, view_with_conductor};
 
-    ghost then = { TellsOpening };
+    ghost then = { TellsChange (view_with_conductor Opened) };
 }
 
 /// The step of an abort.
 pub(crate) struct Aborts;
 
 impl Play<(), View> for Aborts {
-    ghost use Rattle.msrp_board.specs.Inside.Rule.{TellsAbort};
+    ghost use Rattle.msrp_board.specs.Common.{Aborted};
+    ghost use Rattle.msrp_board.specs.Inside.Rule.{TellsChange, view_with_conductor};
 
-    ghost then = { TellsAbort };
+    ghost then = { TellsChange (view_with_conductor Aborted) };
 }
 
 pub(crate) type Words = Shared<(), View, BoardSize, Tickets>;

@@ -2,7 +2,7 @@
 //! them.
 ghost use Rattle.std.specs.Prelude.{◌≡◌, ◌↔◌, ◌<◌};
 ghost use Rattle.msrp_plan.specs.Common.{ℕ, IsTrue, IsSome};
-ghost use Rattle.msrp_board.specs.declared.books.Book.{Book};
+ghost use Rattle.msrp_board.specs.Common.{Book};
 ghost use Rattle.msrp_board.specs.Books.{phase_in, has_acted, lock_of};
 ghost use Rattle.msrp_board.specs.Seats.{IsSeat, IsCoreSeat, HasCore, book_at};
 ghost use Rattle.msrp_board.specs.Inside.Held.{Shows};

@@ -2,8 +2,7 @@
 ghost use Rattle.std.specs.Prelude.{◌≡◌, ◌<◌, ◌≤◌, ◌+◌};
 ghost use Rattle.msrp_plan.specs.Common.{ℕ, Some, false, length, slice_get, slice_index};
 ghost use Rattle.std.specs.Mem.Slots.{slots_items, slots_len, IsFull};
-ghost use Rattle.msrp_board.specs.declared.books.Book.{Book};
-ghost use Rattle.msrp_board.specs.declared.books.Conductor.TheVariants.{Opened};
+ghost use Rattle.msrp_board.specs.Common.{Book, Opened};
 ghost use Rattle.msrp_board.specs.Seats.{book_at, HasAll};
 ghost use Rattle.msrp_board.specs.Boards.{IsTied};
 ghost use Rattle.msrp_board.specs.Words.{high, low};
@@ -52,13 +51,7 @@ impl Board {
     {
         let Board { table, size } = self;
         let last = Snapshot::of(&seat);
-        let BoardSeat {
-            table_seat,
-            size: _,
-            states: _,
-            conductor: _,
-        } = seat;
-        let closed = table.close_with(table_seat);
+        let closed = table.close_with(seat.table_seat);
         let words = words_of(&closed, size.resources);
         closed.free();
         Settled { words, size, last }

@@ -3,8 +3,7 @@
 ghost use Rattle.std.specs.Prelude.{◌≡◌, ◌==◌};
 ghost use Rattle.msrp_plan.specs.Common.{ℕ, not, replicate, Some, IfOk, option_or};
 ghost use Rattle.std.specs.Option.{is_some};
-ghost use Rattle.msrp_board.specs.declared.pages.Page.{Page};
-ghost use Rattle.msrp_board.specs.declared.pages.View.{View};
+ghost use Rattle.msrp_board.specs.Common.{Page, View};
 ghost use Rattle.msrp_board.specs.Inside.Held.{AreStates, IsOwn, state_of, kept_of, kept_if, with_own};
 ghost use Rattle.msrp_board.specs.Inside.Rule.{empty_page};
 

@@ -1,11 +1,9 @@
 //! The steps on a board: each is one atomic instruction on one word, or splits or joins seats.
 ghost use Rattle.std.specs.Prelude.{◌≡◌, ◌+◌, ◌-◌, ◌<◌, ◌==◌, ◌*◌};
 ghost use Rattle.msrp_plan.specs.Common.{Some, [], ℕ};
-ghost use Rattle.msrp_plan.specs.declared.units.Call.TheVariants.{Ask, Poll, Leave};
+ghost use Rattle.msrp_board.specs.Common.{Aborted, Ask, Holds, Leave, Nothing, Opened, Poll, Unopened, Waits};
 ghost use mathlib.Core.Option.{none};
 ghost use Rattle.atomic_table.specs.Table.{step};
-ghost use Rattle.msrp_board.specs.declared.books.Conductor.TheVariants.{Unopened, Opened, Aborted};
-ghost use Rattle.msrp_board.specs.declared.held.Claim.TheVariants.{Nothing, Waits, Holds};
 ghost use Rattle.msrp_board.specs.Inside.Rule.{ViewMayAct, HasEntered, IsTicket, TellsLook, IsUnderRule, ViewWaits, ViewIsAdmitted, with_pages, page_with_arrival, view_with_conductor, view_alone, view_without, view_both};
 
 use crate::books::BoardSize;

@@ -1,22 +1,9 @@
 -- An action of the running job, over what is stored of the jobs of a core.
 use Rattle.std.proofs.Common.{◌≡◌, ◌+◌, ◌<◌, ◌≤◌, ◌∷◌, ◌∙◌}
-use Rattle.msrp_plan.proofs.Common.{ℕ, Bool, true, false, nat_eq, List, [], Option, Some, refl, ap, sym, subst, arith, length, slice_get, vec_capacity, list_any, AllByRecursion, Contains, true≢false, and_from, false_from_ne_true, ForSome, PlanModel, units, jobs_on, is_waiting, IsPlan, is_global, same_res, res_of_unit, is_global_unit, allows, does_unit, phase_with, state_with}
-use Rattle.msrp_plan.specs.declared.ids.CoreId.{CoreId}
-use Rattle.msrp_plan.specs.declared.ids.JobId.{JobId}
-use Rattle.msrp_plan.specs.declared.ids.ResId.{ResId}
-use Rattle.msrp_plan.specs.declared.rows.Kind.{Kind}
-use Rattle.msrp_plan.specs.declared.rows.Row.{Row}
-use Rattle.msrp_plan.specs.declared.units.Op.{Op}
-use Rattle.msrp_plan.specs.declared.units.Phase.{Phase}
-use Rattle.msrp_plan.specs.declared.units.Phase.TheVariants.{Free, Queued, Holding}
-use Rattle.std.proofs.lemmas.Bool.{eq-eqb}
-use Rattle.msrp_ready.specs.Ready.{ReadyModel, head}
-use Rattle.msrp_plan.specs.Actions.{does_unit_after}
+use Rattle.msrp_plan.proofs.Common.{ℕ, Bool, true, false, nat_eq, List, [], Option, Some, refl, ap, sym, subst, arith, length, slice_get, vec_capacity, list_any, AllByRecursion, Contains, true≢false, and_from, false_from_ne_true, ForSome, PlanModel, units, jobs_on, is_waiting, IsPlan, is_global, same_res, res_of_unit, is_global_unit, allows, does_unit, without_first, phase_with, state_with}
+use Rattle.msrp_core.proofs.Common.{ActiveJob, Acts, AreActive, AreJobs, AreOfCore, CanAct, CoreId, Free, HasRoom, HoldSo, Holding, IsCurrent, IsInnermost, IsNextUnit, IsRunning, JobId, Jobs, Kind, Op, Phase, Queued, ReadyModel, ResId, Row, StackModel, StartedJob, active_in, active_of, advanced, does_unit_after, eq-eqb, is_holding_phase, is_waiting_phase, newest, rising_of, state_in, state_of, units_done, with_held, without_held}
+use Rattle.msrp_ready.specs.Ready.{head}
 use Rattle.msrp_plan.specs.declared.units.Op.TheVariants.{Run as RunUnit, Lock as LockUnit, Unlock as UnlockUnit}
-use Rattle.msrp_stack.specs.Stack.{StackModel, StartedJob, HasRoom, IsInnermost, newest, with_held, without_held, without_first}
-use Rattle.msrp_core.specs.Active.{ActiveJob, active_of, advanced, is_waiting_phase, is_holding_phase, state_in, HoldSo, AreActive}
-use Rattle.msrp_core.specs.CoreJobs.{active_in, units_done, rising_of, state_of, AreJobs, AreOfCore, IsCurrent, IsRunning, CanAct, Acts, IsNextUnit}
-use Rattle.msrp_core.specs.declared.jobs.Jobs.{Jobs}
 use Rattle.msrp_core.proofs.Running.{of_core, running_done, running_queued}
 use Rattle.msrp_core.proofs.Steps.{CanUnlock, IsStep, advance_active, advance_states, grant_step, last_free, lock_room, lock_step, release_phase, release_step, request_room, take_step, unlock_room, unlock_step, work_step}
 
@@ -72,31 +59,31 @@ innermost_of (x ∷ started) (n ∷ done) s below g rest e held = let h : x.held
 
 -- ---- the running job before its action
 module _ (jobs : Jobs) (job : JobId) (op : Op) (can : CanAct jobs job op) where
-  pub unit_at : slice_get (units jobs.plan.now can.newest.job) can.newest.done ≡ Some op
-  unit_at = ap (λ j. slice_get (units jobs.plan.now j) can.newest.done) can.same ∙ can.unit
+  pub unit_at : slice_get (units jobs.plan.now can.running.newest.job) can.running.newest.done ≡ Some op
+  unit_at = ap (λ j. slice_get (units jobs.plan.now j) can.running.newest.done) can.running.same ∙ can.unit
 
-  pub holds_at : HoldSo jobs.plan.now jobs.phase (can.newest ∷ can.below)
-  holds_at = subst (HoldSo jobs.plan.now jobs.phase) can.active can.jobs_fit.are.holds
+  pub holds_at : HoldSo jobs.plan.now jobs.phase (can.running.newest ∷ can.running.below)
+  holds_at = subst (HoldSo jobs.plan.now jobs.phase) can.running.active can.jobs_fit.are.holds
 
-  pub active_at : AreActive jobs.plan.now jobs.core.0 jobs.ready.taken jobs.phase (can.newest ∷ can.below)
-  active_at = subst (AreActive jobs.plan.now jobs.core.0 jobs.ready.taken jobs.phase) can.active can.jobs_fit.are
+  pub active_at : AreActive jobs.plan.now jobs.core.0 jobs.ready.taken jobs.phase (can.running.newest ∷ can.running.below)
+  active_at = subst (AreActive jobs.plan.now jobs.core.0 jobs.ready.taken jobs.phase) can.running.active can.jobs_fit.are
 
   -- where the stack's newest holds one resource more, and where it holds all but the innermost
-  pub active_locked : (m : StackModel) (g : ℕ) → m ≡ record jobs.stack { started = with_held jobs.stack.started g } → active_of m.started (units_done jobs) ≡ record can.newest { held = g ∷ can.newest.held } ∷ can.below
-  active_locked m g e = ap (λ (n : StackModel). active_of n.started (units_done jobs)) e ∙ (active_with jobs.stack.started (units_done jobs) g ∙ ap (kept_with g) can.active)
+  pub active_locked : (m : StackModel) (g : ℕ) → m ≡ record jobs.stack { started = with_held jobs.stack.started g } → active_of m.started (units_done jobs) ≡ record can.running.newest { held = g ∷ can.running.newest.held } ∷ can.running.below
+  active_locked m g e = ap (λ (n : StackModel). active_of n.started (units_done jobs)) e ∙ (active_with jobs.stack.started (units_done jobs) g ∙ ap (kept_with g) can.running.active)
 
-  pub active_unlocked : (m : StackModel) (g : ℕ) (rest : List ℕ) → m ≡ record jobs.stack { started = without_held jobs.stack.started } → can.newest.held ≡ g ∷ rest → active_of m.started (units_done jobs) ≡ record can.newest { held = rest } ∷ can.below
-  active_unlocked m g rest e held = ap (λ (n : StackModel). active_of n.started (units_done jobs)) e ∙ (active_less jobs.stack.started (units_done jobs) ∙ (ap kept_less can.active ∙ ap (λ hs. record can.newest { held = without_first hs } ∷ can.below) held))
+  pub active_unlocked : (m : StackModel) (g : ℕ) (rest : List ℕ) → m ≡ record jobs.stack { started = without_held jobs.stack.started } → can.running.newest.held ≡ g ∷ rest → active_of m.started (units_done jobs) ≡ record can.running.newest { held = rest } ∷ can.running.below
+  active_unlocked m g rest e held = ap (λ (n : StackModel). active_of n.started (units_done jobs)) e ∙ (active_less jobs.stack.started (units_done jobs) ∙ (ap kept_less can.running.active ∙ ap (λ hs. record can.running.newest { held = without_first hs } ∷ can.running.below) held))
 
   -- the newest, with what it holds now, is still the running job
-  pub still_running : (mid : Jobs) (held : List ℕ) → active_in mid ≡ record can.newest { held = held } ∷ can.below → IsRunning mid job
-  still_running mid held e = record { newest = record can.newest { held = held }; below = can.below; active = e; same = can.same }
+  pub still_running : (mid : Jobs) (held : List ℕ) → active_in mid ≡ record can.running.newest { held = held } ∷ can.running.below → IsRunning mid job
+  still_running mid held e = record { newest = record can.running.newest { held = held }; below = can.running.below; active = e; same = can.running.same }
 
 -- ---- the running job in its action
 -- a unit of the running job changes the stack to m and the phase to q, with which it holds so much
 pub record IsActing (jobs : Jobs) (job : JobId) (op : Op) (can : CanAct jobs job op) (q : Phase) (m : StackModel) (held : List ℕ) : Type 0 where
-  pub step : IsStep jobs.plan.now can.newest can.below q held
-  pub active : active_of m.started (units_done jobs) ≡ record can.newest { held = held } ∷ can.below
+  pub step : IsStep jobs.plan.now can.running.newest can.running.below q held
+  pub active : active_of m.started (units_done jobs) ≡ record can.running.newest { held = held } ∷ can.running.below
   pub same_plan : m.plan ≡ jobs.stack.plan
   pub same_core : m.core ≡ jobs.stack.core
   pub same_newest : newest m.started ≡ newest jobs.stack.started
@@ -117,16 +104,16 @@ module _ (jobs : Jobs) (job : JobId) (op : Op) (can : CanAct jobs job op) (q : P
 pub last_by : (jobs : Jobs) (job : JobId) (op : Op) (can : CanAct jobs job op) (q : Phase) (m : StackModel) (held : List ℕ) → IsActing jobs job op can q m held
     → (s : ActiveJob) (below : List ActiveJob) → active_of m.started (units_done jobs) ≡ s ∷ below → s.done + 1 ≡ length (units jobs.plan.now job) → s.held ≡ []
 last_by jobs job op can q m held acting s below k last =
-    let both : record can.newest { held = held } ∷ can.below ≡ s ∷ below = sym acting.active ∙ k in
+    let both : record can.running.newest { held = held } ∷ can.running.below ≡ s ∷ below = sym acting.active ∙ k in
     let h : s.held ≡ held = cc in
-    let d : can.newest.done ≡ s.done = cc in
-    h ∙ last_free jobs.plan.now can.jobs_fit.accepted jobs.core.0 jobs.ready.taken can.newest can.below jobs.phase (active_at jobs job op can) q held acting.step (ap (λ n. n + 1) d ∙ (last ∙ sym (ap (λ j. length (units jobs.plan.now j)) can.same)))
+    let d : can.running.newest.done ≡ s.done = cc in
+    h ∙ last_free jobs.plan.now can.jobs_fit.accepted jobs.core.0 jobs.ready.taken can.running.newest can.running.below jobs.phase (active_at jobs job op can) q held acting.step (ap (λ n. n + 1) d ∙ (last ∙ sym (ap (λ j. length (units jobs.plan.now j)) can.running.same)))
 
 -- a unit of work, a lock and an unlock of a local resource
-pub working : (jobs : Jobs) (job : JobId) (can : CanAct jobs job RunUnit) → IsActing jobs job RunUnit can jobs.phase jobs.stack can.newest.held
+pub working : (jobs : Jobs) (job : JobId) (can : CanAct jobs job RunUnit) → IsActing jobs job RunUnit can jobs.phase jobs.stack can.running.newest.held
 working jobs job can = record {
-  step = work_step jobs.plan.now can.jobs_fit.accepted can.newest can.below jobs.phase (holds_at jobs job RunUnit can) (unit_at jobs job RunUnit can);
-  active = can.active;
+  step = work_step jobs.plan.now can.jobs_fit.accepted can.running.newest can.running.below jobs.phase (holds_at jobs job RunUnit can) (unit_at jobs job RunUnit can);
+  active = can.running.active;
   same_plan = refl;
   same_core = refl;
   same_newest = refl;
@@ -135,7 +122,7 @@ working jobs job can = record {
 
 -- the stack's newest holds one resource more
 locked_by : (jobs : Jobs) (job : JobId) (res : ResId) (can : CanAct jobs job (LockUnit res)) (q : Phase) (m : StackModel) → m ≡ record jobs.stack { started = with_held jobs.stack.started res.0 }
-    → IsStep jobs.plan.now can.newest can.below q (res.0 ∷ can.newest.held) → IsActing jobs job (LockUnit res) can q m (res.0 ∷ can.newest.held)
+    → IsStep jobs.plan.now can.running.newest can.running.below q (res.0 ∷ can.running.newest.held) → IsActing jobs job (LockUnit res) can q m (res.0 ∷ can.running.newest.held)
 locked_by jobs job res can q m e step = record {
   step = step;
   active = active_locked jobs job (LockUnit res) can m res.0 e;
@@ -146,19 +133,19 @@ locked_by jobs job res can q m e step = record {
 }
 
 module _ (jobs : Jobs) (job : JobId) (res : ResId) (can : CanAct jobs job (LockUnit res)) (m : StackModel) (locks : m ≡ record jobs.stack { started = with_held jobs.stack.started res.0 }) where
-  pub locking : is_global jobs.plan.now res.0 ≡ false → IsActing jobs job (LockUnit res) can jobs.phase m (res.0 ∷ can.newest.held)
-  locking local = locked_by jobs job res can jobs.phase m locks (lock_step jobs.plan.now can.jobs_fit.accepted can.newest can.below jobs.phase res (holds_at jobs job (LockUnit res) can) (unit_at jobs job (LockUnit res) can) local)
+  pub locking : is_global jobs.plan.now res.0 ≡ false → IsActing jobs job (LockUnit res) can jobs.phase m (res.0 ∷ can.running.newest.held)
+  locking local = locked_by jobs job res can jobs.phase m locks (lock_step jobs.plan.now can.jobs_fit.accepted can.running.newest can.running.below jobs.phase res (holds_at jobs job (LockUnit res) can) (unit_at jobs job (LockUnit res) can) local)
 
-  pub taking : jobs.phase ≡ Free → is_global jobs.plan.now res.0 ≡ true → IsActing jobs job (LockUnit res) can (Holding res) m (res.0 ∷ can.newest.held)
+  pub taking : jobs.phase ≡ Free → is_global jobs.plan.now res.0 ≡ true → IsActing jobs job (LockUnit res) can (Holding res) m (res.0 ∷ can.running.newest.held)
   taking free global =
       locked_by jobs job res can (Holding res) m locks
-      (take_step jobs.plan.now can.jobs_fit.accepted can.newest can.below res (subst (λ p. HoldSo jobs.plan.now p (can.newest ∷ can.below)) free (holds_at jobs job (LockUnit res) can)) (unit_at jobs job (LockUnit res) can) global)
+      (take_step jobs.plan.now can.jobs_fit.accepted can.running.newest can.running.below res (subst (λ p. HoldSo jobs.plan.now p (can.running.newest ∷ can.running.below)) free (holds_at jobs job (LockUnit res) can)) (unit_at jobs job (LockUnit res) can) global)
 
 -- a grant: the job held the resource, for the ceiling, since its request
-pub granting : (jobs : Jobs) (job : JobId) (res : ResId) (can : CanAct jobs job (LockUnit res)) → jobs.phase ≡ Queued res → IsActing jobs job (LockUnit res) can (Holding res) jobs.stack can.newest.held
+pub granting : (jobs : Jobs) (job : JobId) (res : ResId) (can : CanAct jobs job (LockUnit res)) → jobs.phase ≡ Queued res → IsActing jobs job (LockUnit res) can (Holding res) jobs.stack can.running.newest.held
 granting jobs job res can awaits = record {
-  step = grant_step jobs.plan.now can.jobs_fit.accepted can.newest can.below res (subst (λ p. HoldSo jobs.plan.now p (can.newest ∷ can.below)) awaits (holds_at jobs job (LockUnit res) can));
-  active = can.active;
+  step = grant_step jobs.plan.now can.jobs_fit.accepted can.running.newest can.running.below res (subst (λ p. HoldSo jobs.plan.now p (can.running.newest ∷ can.running.below)) awaits (holds_at jobs job (LockUnit res) can));
+  active = can.running.active;
   same_plan = refl;
   same_core = refl;
   same_newest = refl;
@@ -168,23 +155,23 @@ granting jobs job res can awaits = record {
 -- the stack has room for a lock, and for a request
 pub lock_fits : (jobs : Jobs) (job : JobId) (res : ResId) (can : CanAct jobs job (LockUnit res)) → is_global jobs.plan.now res.0 ≡ false → HasRoom jobs.stack.started 8 res.0
 lock_fits jobs job res can local =
-    let room = lock_room jobs.plan.now can.jobs_fit.accepted can.newest can.below jobs.phase res (holds_at jobs job (LockUnit res) can) (unit_at jobs job (LockUnit res) can) local in
-    room_of jobs.stack.started (units_done jobs) can.newest can.below res.0 can.active room.few room.fresh
+    let room = lock_room jobs.plan.now can.jobs_fit.accepted can.running.newest can.running.below jobs.phase res (holds_at jobs job (LockUnit res) can) (unit_at jobs job (LockUnit res) can) local in
+    room_of jobs.stack.started (units_done jobs) can.running.newest can.running.below res.0 can.running.active room.few room.fresh
 
 pub request_fits : (jobs : Jobs) (job : JobId) (res : ResId) (can : CanAct jobs job (LockUnit res)) → jobs.phase ≡ Free → HasRoom jobs.stack.started 8 res.0
 request_fits jobs job res can free =
-    let room = request_room jobs.plan.now can.jobs_fit.accepted can.newest can.below res (subst (λ p. HoldSo jobs.plan.now p (can.newest ∷ can.below)) free (holds_at jobs job (LockUnit res) can)) (unit_at jobs job (LockUnit res) can) in
-    room_of jobs.stack.started (units_done jobs) can.newest can.below res.0 can.active room.few room.fresh
+    let room = request_room jobs.plan.now can.jobs_fit.accepted can.running.newest can.running.below res (subst (λ p. HoldSo jobs.plan.now p (can.running.newest ∷ can.running.below)) free (holds_at jobs job (LockUnit res) can)) (unit_at jobs job (LockUnit res) can) in
+    room_of jobs.stack.started (units_done jobs) can.running.newest can.running.below res.0 can.running.active room.few room.fresh
 
 -- ---- an unlock
 module _ (jobs : Jobs) (job : JobId) (res : ResId) (can : CanAct jobs job (UnlockUnit res)) where
-  pub unlocks : CanUnlock jobs.plan.now can.jobs_fit.accepted can.newest can.below res
-  unlocks = unlock_room jobs.plan.now can.jobs_fit.accepted can.newest can.below jobs.phase res (holds_at jobs job (UnlockUnit res) can) (unit_at jobs job (UnlockUnit res) can)
+  pub unlocks : CanUnlock jobs.plan.now can.jobs_fit.accepted can.running.newest can.running.below res
+  unlocks = unlock_room jobs.plan.now can.jobs_fit.accepted can.running.newest can.running.below jobs.phase res (holds_at jobs job (UnlockUnit res) can) (unit_at jobs job (UnlockUnit res) can)
 
   pub is_innermost : IsInnermost jobs.stack.started res.0
-  is_innermost = innermost_of jobs.stack.started (units_done jobs) can.newest can.below res.0 unlocks.rest can.active unlocks.held
+  is_innermost = innermost_of jobs.stack.started (units_done jobs) can.running.newest can.running.below res.0 unlocks.rest can.running.active unlocks.held
 
-  unlocked_by : (q : Phase) (m : StackModel) → m ≡ record jobs.stack { started = without_held jobs.stack.started } → IsStep jobs.plan.now can.newest can.below q unlocks.rest → IsActing jobs job (UnlockUnit res) can q m unlocks.rest
+  unlocked_by : (q : Phase) (m : StackModel) → m ≡ record jobs.stack { started = without_held jobs.stack.started } → IsStep jobs.plan.now can.running.newest can.running.below q unlocks.rest → IsActing jobs job (UnlockUnit res) can q m unlocks.rest
   unlocked_by q m e step = record {
     step = step;
     active = active_unlocked jobs job (UnlockUnit res) can m res.0 unlocks.rest e unlocks.held;
@@ -195,11 +182,11 @@ module _ (jobs : Jobs) (job : JobId) (res : ResId) (can : CanAct jobs job (Unloc
   }
 
   pub unlocking : (m : StackModel) → m ≡ record jobs.stack { started = without_held jobs.stack.started } → is_global jobs.plan.now res.0 ≡ false → IsActing jobs job (UnlockUnit res) can jobs.phase m unlocks.rest
-  unlocking m e local = unlocked_by jobs.phase m e (unlock_step jobs.plan.now can.jobs_fit.accepted can.newest can.below jobs.phase res unlocks (holds_at jobs job (UnlockUnit res) can) (unit_at jobs job (UnlockUnit res) can) local)
+  unlocking m e local = unlocked_by jobs.phase m e (unlock_step jobs.plan.now can.jobs_fit.accepted can.running.newest can.running.below jobs.phase res unlocks (holds_at jobs job (UnlockUnit res) can) (unit_at jobs job (UnlockUnit res) can) local)
 
   -- of a global resource
   pub dropping : (m : StackModel) → m ≡ record jobs.stack { started = without_held jobs.stack.started } → is_global jobs.plan.now res.0 ≡ true → IsActing jobs job (UnlockUnit res) can Free m unlocks.rest
-  dropping m e global = unlocked_by Free m e (release_step jobs.plan.now can.jobs_fit.accepted can.newest can.below jobs.phase res unlocks (holds_at jobs job (UnlockUnit res) can) (unit_at jobs job (UnlockUnit res) can) global)
+  dropping m e global = unlocked_by Free m e (release_step jobs.plan.now can.jobs_fit.accepted can.running.newest can.running.below jobs.phase res unlocks (holds_at jobs job (UnlockUnit res) can) (unit_at jobs job (UnlockUnit res) can) global)
 
 -- the row does the unit
 pub does_by : (plan : PlanModel) (queued : Bool) (r : Row) (op : Op) (k : Kind) (res : Option ResId) → r.res ≡ res → r.kind ≡ k → same_res res (res_of_unit op) ≡ true → allows (is_global_unit plan op) queued op k ≡ true → does_unit plan queued r (Some op) ≡ true
@@ -281,19 +268,19 @@ left_states old new q active j l =
 -- what a unit or a wait needs to be an action
 module _ (old new : Jobs) (job : JobId) (op : Op) (tick : ℕ) (r : Row) (q : Phase) (k : Kind) (res : Option ResId) (can : CanAct old job op) (row : IsRow r tick old job k res)
     (does : does_unit old.plan.now (is_waiting_phase old.phase) r (Some op) ≡ true) (phase : q ≡ phase_with old.phase k res) where
-  row_job_is : r.job ≡ Some can.newest.job
-  row_job_is = row.job_is ∙ ap (λ j. Some j) (sym can.same)
+  row_job_is : r.job ≡ Some can.running.newest.job
+  row_job_is = row.job_is ∙ ap (λ j. Some j) (sym can.running.same)
 
   action_at : (s : ActiveJob) (below : List ActiveJob) → active_in old ≡ s ∷ below → does_unit_after old.plan.now job (is_waiting_phase old.phase) s.done r ≡ true
   action_at s below e =
-      let both : can.newest ∷ can.below ≡ s ∷ below = sym can.active ∙ e in
-      let d : s.done ≡ can.newest.done = cc in
+      let both : can.running.newest ∷ can.running.below ≡ s ∷ below = sym can.running.active ∙ e in
+      let d : s.done ≡ can.running.newest.done = cc in
       ap (λ n. does_unit old.plan.now (is_waiting_phase old.phase) r (slice_get (units old.plan.now job) n)) d ∙ (ap (does_unit old.plan.now (is_waiting_phase old.phase) r) can.unit ∙ does)
 
   phase_at : new.phase ≡ q → new.phase ≡ phase_with old.phase r.kind r.res
   phase_at e = e ∙ (phase ∙ (ap (λ x. phase_with old.phase x res) (sym row.kind_is) ∙ ap (phase_with old.phase r.kind) (sym row.res_is)))
 
-  acts_by : (active : List ActiveJob) → AreActive old.plan.now old.core.0 old.ready.taken q active → IsLeft old new q active → ((j : JobId) → state_in old.plan.now old.ready.taken q active j ≡ state_with r (state_in old.plan.now old.ready.taken old.phase (can.newest ∷ can.below) j)) → Acts old new job tick r
+  acts_by : (active : List ActiveJob) → AreActive old.plan.now old.core.0 old.ready.taken q active → IsLeft old new q active → ((j : JobId) → state_in old.plan.now old.ready.taken q active j ≡ state_with r (state_in old.plan.now old.ready.taken old.phase (can.running.newest ∷ can.running.below) j)) → Acts old new job tick r
   acts_by active are left states = record {
     jobs_fit = left_fits old new q active can.jobs_fit are left;
     plan = ap (λ p. p.now) left.plan_is;
@@ -303,16 +290,16 @@ module _ (old new : Jobs) (job : JobId) (op : Op) (tick : ℕ) (r : Row) (q : Ph
     row_core = row.core_is;
     row_job = row.job_is;
     action = action_at;
-    states = λ j. left_states old new q active j left ∙ (states j ∙ ap (λ g. state_with r (state_in old.plan.now old.ready.taken old.phase g j)) (sym can.active));
+    states = λ j. left_states old new q active j left ∙ (states j ∙ ap (λ g. state_with r (state_in old.plan.now old.ready.taken old.phase g j)) (sym can.running.active));
     phase = phase_at left.phase_is;
   }
 
   -- a unit
-  pub acts_unit : (held : List ℕ) → IsStep old.plan.now can.newest can.below q held → is_waiting k ≡ false → IsLeft old new q (advanced old.plan.now (record can.newest { held = held } ∷ can.below)) → Acts old new job tick r
+  pub acts_unit : (held : List ℕ) → IsStep old.plan.now can.running.newest can.running.below q held → is_waiting k ≡ false → IsLeft old new q (advanced old.plan.now (record can.running.newest { held = held } ∷ can.running.below)) → Acts old new job tick r
   acts_unit held step acts left =
-      acts_by (advanced old.plan.now (record can.newest { held = held } ∷ can.below))
-      (advance_active old.plan.now can.jobs_fit.accepted old.core.0 old.ready.taken can.newest can.below old.phase (active_at old job op can) q held step) left
-      (advance_states old.plan.now can.jobs_fit.accepted old.core.0 old.ready.taken can.newest can.below old.phase (active_at old job op can) q held r row_job_is (ap is_waiting row.kind_is ∙ acts) step.calm)
+      acts_by (advanced old.plan.now (record can.running.newest { held = held } ∷ can.running.below))
+      (advance_active old.plan.now can.jobs_fit.accepted old.core.0 old.ready.taken can.running.newest can.running.below old.phase (active_at old job op can) q held step) left
+      (advance_states old.plan.now can.jobs_fit.accepted old.core.0 old.ready.taken can.running.newest can.running.below old.phase (active_at old job op can) q held r row_job_is (ap is_waiting row.kind_is ∙ acts) step.calm)
 
 -- the jobs as `advance` leaves them, from these
 pub record IsAdvanced (mid new : Jobs) : Type 0 where
@@ -329,7 +316,7 @@ pub unit_acts : (old new : Jobs) (job : JobId) (op : Op) (tick : ℕ) (r : Row) 
     → IsActing old job op can q m held → IsAdvanced (record old { phase = q; stack = m }) new → IsRow r tick new job k res
     → same_res res (res_of_unit op) ≡ true → allows (is_global_unit old.plan.now op) (is_waiting_phase old.phase) op k ≡ true → q ≡ phase_with old.phase k res → is_waiting k ≡ false → Acts old new job tick r
 unit_acts old new job op tick r q k res m held can acting done row same may phase acts =
-    let left = left_by old new q m (advanced old.plan.now (record can.newest { held = held } ∷ can.below)) acting.same_plan acting.same_core done.others done.stack_plan done.stack_core done.size done.room (done.active ∙ ap (advanced old.plan.now) acting.active) done.current in
+    let left = left_by old new q m (advanced old.plan.now (record can.running.newest { held = held } ∷ can.running.below)) acting.same_plan acting.same_core done.others done.stack_plan done.stack_core done.size done.room (done.active ∙ ap (advanced old.plan.now) acting.active) done.current in
     acts_unit old new job op tick r q k res can (record { tick_is = row.tick_is; core_is = row.core_is ∙ ap (λ (j : Jobs). j.core) done.others; job_is = row.job_is; kind_is = row.kind_is; res_is = row.res_is })
     (does_by old.plan.now (is_waiting_phase old.phase) r op k res row.res_is row.kind_is same may) phase held acting.step acts left
 
@@ -345,17 +332,16 @@ waiting_global plan p s below r e h = (subst (λ p. HoldSo plan p (s ∷ below))
 -- of the running job
 pub next_unit : (jobs : Jobs) (job : JobId) (op : Op) → CanAct jobs job op → IsNextUnit jobs job op
 next_unit jobs job op can =
-    let run : IsRunning jobs job = record { newest = can.newest; below = can.below; active = can.active; same = can.same } in
     record {
       accepted = can.jobs_fit.accepted;
       levels = can.jobs_fit.levels;
-      newest = can.newest;
-      below = can.below;
-      same = can.same;
+      newest = can.running.newest;
+      below = can.running.below;
+      same = can.running.same;
       holds = holds_at jobs job op can;
       unit = can.unit;
-      queued = running_queued jobs job run;
-      done = running_done jobs job can.jobs_fit run;
+      queued = running_queued jobs job can.running;
+      done = running_done jobs job can.jobs_fit can.running;
     }
 
 module _ (jobs : Jobs) (job : JobId) (op : Op) (next : IsNextUnit jobs job op) where

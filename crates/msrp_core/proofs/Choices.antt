@@ -1,23 +1,13 @@
 -- The choice of a core's next job, from the jobs that are ready and those that are active.
 use Rattle.msrp_plan.proofs.Common.{ℕ, Bool, true, false, cond, not, nat_eq, max, List, [], refl, ap, sym, subst, arith, length, map, take, inl, inr, list_any, filter, AllByRecursion, Contains, true≢false, or-true, cases_Bool, le-ltb, and_parts, and_from, false_from_ne_true, or_parts, All-contains, All-from_recursion, PlanModel, units, holds_after, jobs_on, same_job, is_released, is_started, is_queued, is_finished, done, holds, greatest, is_global, local_ceiling, resources, raised_with, ceiling_with, is_before, least, first_ready, first_unfinished, choice, JobState, state_after, IsPlan, same_is, same_self, same_symm, any_in, all_weaker, all_both, filter_same, all_of, any_map, any_from}
-use Rattle.msrp_plan.specs.declared.ids.JobId.{JobId}
-use Rattle.msrp_plan.specs.declared.ids.ResId.{ResId}
-use Rattle.msrp_plan.specs.declared.rows.Row.{Row}
-use Rattle.msrp_plan.specs.declared.units.Phase.{Phase}
-use Rattle.msrp_plan.specs.declared.units.Phase.TheVariants.{Free, Queued, Holding}
+use Rattle.msrp_core.proofs.Common.{ActiveJob, AreActive, AreDistinct, AwaitsGlobal, Free, HoldSo, Holding, HoldsLocal, IsActiveJob, JobId, Phase, Queued, ResId, Row, StartedJob, active_of, chosen, done_in, eq-eqb, eqb-true, filter_agree, is_active, is_among, is_kept, is_newest, is_waiting_phase, running, started_job, state_in, units_balance}
 use Rattle.std.proofs.Common.{◌≤◌, ◌≡◌, ◌<◌, ◌==◌, ◌&&◌, ◌||◌, ◌∷◌, ◌∙◌, take_all}
-use Rattle.std.proofs.lemmas.Bool.{eqb-true, eq-eqb}
-use Rattle.std.proofs.lemmas.List.Elements.{filter_agree}
 use Rattle.msrp_plan.specs.Levels as levels
 use Rattle.msrp_plan.specs.Ceiling.{is_held_on, is_queued_on, ceiling}
-use Rattle.msrp_plan.specs.Choice.{head, running, chosen}
+use Rattle.msrp_plan.specs.Choice.{head}
 use Rattle.msrp_plan.proofs.Lists.Filters.{any_same}
-use Rattle.msrp_plan.proofs.TaskUnits.PlanUnits.{units_balance}
 use Rattle.msrp_plan.proofs.Queues.QueueLocks.{global_named}
-use Rattle.msrp_ready.specs.Ready.{is_among}
 use Rattle.msrp_stack.specs.Stack as stack
-use Rattle.msrp_stack.specs.Stack.{StartedJob}
-use Rattle.msrp_core.specs.Active.{ActiveJob, active_of, started_job, is_active, is_kept, done_in, is_waiting_phase, is_newest, state_in, IsActiveJob, AreDistinct, HoldsLocal, AwaitsGlobal, HoldSo, AreActive}
 use Rattle.msrp_core.proofs.HeldUnits.{held_test}
 use Rattle.msrp_plan.proofs.Tests.{same_tests}
 

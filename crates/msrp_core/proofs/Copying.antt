@@ -1,18 +1,7 @@
 -- A machine whose jobs stand in other memory.
 use Rattle.std.proofs.Common.{◌≡◌, ◌≤◌, ◌∷◌, ◌++◌, ◌∙◌}
 use Rattle.msrp_plan.proofs.Common.{[], ℕ, List, Option, Some, None, reverse, map, length, ap, sym, subst, arith, vec_capacity, ForSome, jobs_on, units}
-use Rattle.msrp_plan.specs.declared.ids.JobId.{JobId}
-use Rattle.msrp_plan.specs.declared.rows.Kind.{Kind}
-use Rattle.msrp_plan.specs.declared.rows.Row.{Row}
-use Rattle.msrp_stack.specs.Stack.{newest}
-use Rattle.msrp_core.specs.Active.{AreActive, active_of, state_in}
-use Rattle.msrp_core.specs.CoreJobs.{AreJobs, IsRunning, active_in}
-use Rattle.msrp_core.specs.Machine.{MachineModel, StandsAfter}
-use Rattle.msrp_core.specs.MachineView.{IsMachineView, Repeats, Spins, machine_view}
-use Rattle.msrp_core.specs.Repeats.{CanRepeat, Polls}
-use Rattle.msrp_core.specs.declared.jobs.Jobs.{Jobs}
-use Rattle.msrp_core.specs.declared.machine.Machine.TheInside.{Inside}
-use Rattle.msrp_core.specs.declared.repeats.Poll.{Poll}
+use Rattle.msrp_core.proofs.Common.{AreActive, AreJobs, CanRepeat, Inside, IsMachineView, IsRunning, JobId, Jobs, Kind, MachineModel, Poll, Polls, Repeats, Row, Spins, StandsAfter, active_in, active_of, machine_view, newest, state_in}
 
 -- the same jobs, where what is below the newest and the units of that are listed elsewhere
 pub record AreSame (old new : Jobs) : Type 0 where

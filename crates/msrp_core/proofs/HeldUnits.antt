@@ -1,9 +1,7 @@
 -- What a job holds after its units so far, and after one unit more.
 use Rattle.msrp_plan.proofs.Common.{ℕ, zero, suc, Bool, true, false, cond, nat_eq, nat_lt, List, [], Some, None, refl, ap, sym, arith, add-one, length, take, slice_get, inl, inr, list_any, true≢false, take-suc, cases_Bool, lt-ltb, le-ltb, false_from_ne_true, none-some, same_Some, get_or_from_slice_get, slice_get_within, sum_by-cons, PlanModel, TaskModel, held_with, held_after, holds_after, locks, unlocks, IsLocking, held_times, held_push, even_after}
-use Rattle.msrp_plan.specs.declared.ids.ResId.{ResId}
-use Rattle.msrp_plan.specs.declared.units.Op.{Op}
+use Rattle.msrp_core.proofs.Common.{Op, ResId, eq-eqb, eqb-true}
 use Rattle.std.proofs.Common.{◌≡◌, ◌+◌, ◌≤◌, ◌==◌, ◌||◌, ◌∷◌, ◌++◌, ◌∙◌, take_all}
-use Rattle.std.proofs.lemmas.Bool.{eqb-true, eq-eqb}
 use Rattle.msrp_plan.specs.WellFormed.{IsWhole}
 use Rattle.msrp_plan.specs.declared.units.Op.TheVariants.{Lock, Unlock}
 

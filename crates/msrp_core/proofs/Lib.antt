@@ -1,3 +1,4 @@
+pub mod Common
 pub mod HeldUnits
 pub mod Choices
 pub mod Steps

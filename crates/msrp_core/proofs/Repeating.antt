@@ -1,28 +1,13 @@
 -- A core whose last row stands again.
 use Rattle.std.proofs.Common.{◌%◌, ◌^◌, ◌≡◌, ◌+◌, ◌-◌, ◌<◌, ◌≤◌, ◌==◌, ◌&&◌, ◌∷◌, ◌++◌, ◌∙◌}
 use Rattle.msrp_plan.proofs.Common.{reverse, ℕ, Some, None, Option, slice_get, Bool, false, not, cond, List, [], nat_le, refl, ap, sym, subst, arith, length, length-append, true, IfSome, ForSome, option_or, true≢false, and-true, eqb-false, leb-false, lt-leb, false_from_ne_true, none-some, same_Some, PlanModel, units, release, jobs_on, is_queued, done, choice, phase_with, IsCoreTurn, has_shape, may_carry, JobState, state_after, in_tick, is_global, known_task, same_row, any_in}
-use Rattle.msrp_plan.specs.declared.ids.JobId.{JobId}
-use Rattle.msrp_plan.specs.declared.ids.CoreId.{CoreId}
-use Rattle.msrp_plan.specs.declared.ids.ResId.{ResId}
-use Rattle.msrp_plan.specs.declared.rows.Kind.{Kind}
-use Rattle.msrp_plan.specs.declared.rows.Row.{Row}
-use Rattle.msrp_plan.specs.declared.units.Phase.TheVariants.{Queued}
-use Rattle.std.proofs.lemmas.Bool.{eqb-true}
+use Rattle.msrp_core.proofs.Common.{Acts, ActsFor, AreJobs, AreToldBy, CanAct, CanRepeat, CoreId, HasWorkLeft, HoldSo, Inside, IsMachineView, IsRunning, IsSamePlace, JobId, Jobs, Kind, Poll, Polls, Queued, ReadyModel, Repeats, RepeatsOnly, ResId, Row, Spins, StandsAfter, active_in, advanced, eqb-true, has_come, has_release_by, is_waiting_phase, kind_again, machine_view, row_again, spin_again, spin_of, started_with, state_of}
 use Rattle.msrp_plan.specs.Stretches.{NoneReleased, Stays, Works as StayWorks, Idles as StayIdles, Polls as StayPolls}
 use Rattle.msrp_plan.specs.declared.rows.Kind.TheVariants as kinds
 use Rattle.msrp_plan.specs.declared.units.Op.TheVariants.{Lock, Run}
 use Rattle.msrp_plan.proofs.Legality.LegalRows as legal
 use Rattle.msrp_plan.proofs.Legality.SameRow.{parts}
 use Rattle.msrp_plan.proofs.Scheduling.Stretches.{stays_again, turns_by_states}
-use Rattle.msrp_ready.specs.Ready.{ReadyModel, has_come, has_release_by}
-use Rattle.msrp_core.specs.Active.{HoldSo, advanced, is_waiting_phase}
-use Rattle.msrp_core.specs.CoreJobs.{active_in, state_of, AreJobs, AreToldBy, IsRunning, CanAct, Acts, ActsFor, IsSamePlace, started_with}
-use Rattle.msrp_core.specs.Machine.{RepeatsOnly, StandsAfter}
-use Rattle.msrp_core.specs.MachineView.{machine_view, Repeats, Spins, IsMachineView}
-use Rattle.msrp_core.specs.Repeats.{CanRepeat, HasWorkLeft, Polls, kind_again, row_again, spin_again, spin_of}
-use Rattle.msrp_core.specs.declared.jobs.Jobs.{Jobs}
-use Rattle.msrp_core.specs.declared.machine.Machine.TheInside.{Inside}
-use Rattle.msrp_core.specs.declared.repeats.Poll.{Poll}
 use Rattle.msrp_core.proofs.Acting.{waiting_global, working}
 use Rattle.msrp_core.proofs.Choices.{at_in}
 use Rattle.msrp_core.proofs.Running.{advanced_on, newest_done, running_done, running_known, running_queued, running_states}
@@ -123,10 +108,7 @@ less_left jobs job k n l has = record { running = has.running; work = λ i a b. 
 pub next_work : (jobs : Jobs) (job : JobId) (k : ℕ) → 0 < k → AreJobs jobs → HasWorkLeft jobs job k → CanAct jobs job Run
 next_work jobs job k l fit has = record {
   jobs_fit = fit;
-  newest = has.running.newest;
-  below = has.running.below;
-  active = has.running.active;
-  same = has.running.same;
+  running = has.running;
   unit = has.work has.running.newest.done (omega arith) (omega (arith, l));
 }
 
@@ -312,7 +294,7 @@ module _ (m : Inside) (fit : AreJobs m.jobs) (p : Poll) (s : Spins m p) where
   can_spin =
       let run = s.polls.running in
       let holds = subst (HoldSo m.jobs.plan.now (Queued p.res)) run.active (subst (λ q. HoldSo m.jobs.plan.now q (active_in m.jobs)) s.awaits fit.are.holds) in
-      record { jobs_fit = fit; newest = run.newest; below = run.below; active = run.active; same = run.same; unit = subst (λ j. slice_get (units m.jobs.plan.now j) run.newest.done ≡ Some (Lock p.res)) run.same holds.0.unit }
+      record { jobs_fit = fit; running = run; unit = subst (λ j. slice_get (units m.jobs.plan.now j) run.newest.done ≡ Some (Lock p.res)) run.same holds.0.unit }
 
   pub awaits_global : is_global m.jobs.plan.now p.res.0 ≡ true
   awaits_global = waiting_global m.jobs.plan.now m.jobs.phase s.polls.running.newest s.polls.running.below p.res s.awaits (subst (HoldSo m.jobs.plan.now m.jobs.phase) s.polls.running.active fit.are.holds)

@@ -2,28 +2,15 @@
 use Rattle.std.proofs.Common.{◌≡◌, ◌≢◌, ◌+◌, ◌<◌, ◌≤◌, ◌==◌, ◌⊎◌, ◌&&◌, ◌||◌, ◌∷◌, ◌++◌, ◌∙◌, ◌-◌}
 use Rattle.msrp_plan.proofs.Common.{ℕ, Bool, true, false, cond, not, nat_eq, nat_lt, max, List, [], Option, Some, None, refl, ap, sym, subst, arith, length, length-append, map, reverse, inl, inr, Vec, Global, vec_capacity, list_any, filter, AllByRecursion, Contains, ForSome, true≢false, and-true, and-false, or-true, or-false, cases_Bool, ltb-true, and_from, and_parts, false_from_ne_true, not-true, or_parts, length-map, none-some, same_Some, PlanModel, units, no_task, jobs_on, same_job, is_job, is_released, level, is_global, local_ceiling, greatest, resources, raised_with, ceiling_with, is_before, first_ready, first_unfinished, choice, comes_first, JobState, state_after, IsPlan, all_weaker, any_in, least_in, least_of_those, least_passes, before_order, same_is, same_self, same_symm, on_its_core, known_task}
 use Rattle.std.specs.List.{IsDistinct}
-use Rattle.msrp_plan.specs.declared.ids.JobId.{JobId}
-use Rattle.msrp_plan.specs.declared.rows.Row.{Row}
-use Rattle.msrp_plan.specs.declared.units.Op.{Op}
-use Rattle.msrp_plan.specs.declared.units.Phase.{Phase}
-use Rattle.msrp_plan.specs.declared.units.Phase.TheVariants.{Free, Queued, Holding}
+use Rattle.msrp_core.proofs.Common.{ActiveJob, AreActive, AreDistinct, AreJobs, AreOfCore, AreToldBy, CanStart, ComesFirst, Contains-get_or, Free, HoldSo, Holding, IsActiveJob, IsCoreState, IsCurrent, IsRunning, JobId, Jobs, Op, Phase, Queued, ReadyModel, Row, StackModel, StartedJob, active_in, active_of, advanced, chosen, current_ceiling, done_in, eq-eqb, eqb-true, is_active, is_among, is_kept, is_newest, is_preferred, is_waiting_phase, newest, rising_of, started_job, started_with, state_in, state_of, units_done, without_newest}
 use Rattle.std.specs.Cmp.{IsEquivalence}
-use Rattle.std.proofs.lemmas.Bool.{eqb-true, eq-eqb}
 use Rattle.std.proofs.lemmas.Map.Made.{length-le_from_is_member}
 use Rattle.std.proofs.lemmas.List.{length-reverse}
-use Rattle.std.proofs.lemmas.List.Elements.{Contains-get_or}
 use Rattle.msrp_plan.specs.Levels as levels
-use Rattle.msrp_plan.specs.Choice.{chosen}
 use Rattle.msrp_plan.proofs.Jobs.JobTests.{same_congr}
 use Rattle.msrp_plan.proofs.Levels.Ceilings.{top_above}
-use Rattle.msrp_ready.specs.Ready.{ReadyModel, is_among}
 use Rattle.msrp_ready.specs.Ready as ready
-use Rattle.msrp_stack.specs.Stack.{StackModel, StartedJob, CanStart, ComesFirst, newest, current_ceiling, without_newest}
 use Rattle.msrp_stack.specs.Stack as stack
-use Rattle.msrp_core.specs.Active.{ActiveJob, active_of, advanced, started_job, is_active, is_kept, done_in, is_waiting_phase, is_newest, state_in, IsActiveJob, AreDistinct, HoldSo, AreActive}
-use Rattle.msrp_core.specs.CoreJobs.{active_in, units_done, state_of, AreJobs, AreOfCore, AreToldBy, IsCurrent, IsRunning, is_preferred, rising_of, started_with}
-use Rattle.msrp_core.specs.CoreStates.{IsCoreState}
-use Rattle.msrp_core.specs.declared.jobs.Jobs.{Jobs}
 use Rattle.msrp_core.specs.declared.states.CoreState.{CoreState}
 use Rattle.msrp_core.proofs.Choices.{at_in, ceiling_is, choice_is, current_is, active_left, head_is, kept_raised, running_is, started_jobs, top_is}
 use Rattle.msrp_stack.proofs.Changes.{reverse_push}

@@ -1,18 +1,8 @@
 -- The active jobs of a core after one action of the newest.
 use Rattle.std.proofs.Common.{◌≡◌, ◌+◌, ◌<◌, ◌==◌, ◌⊎◌, ◌&&◌, ◌||◌, ◌∷◌, ◌∙◌}
 use Rattle.msrp_plan.proofs.Common.{ℕ, Bool, true, false, cond, not, nat_eq, List, [], Option, Some, refl, ap, sym, subst, arith, length, take, slice_get, inl, inr, list_any, true≢false, or-true, and-false, cases_Bool, eqb-false, le-ltb, false_from_ne_true, PlanModel, units, task_of, held_after, holds_after, jobs_on, same_job, is_job, is_waiting, is_global, state_with, IsPlan, same_is, same_self, core_jobs_below, units_lock, held_unlock}
-use Rattle.msrp_plan.specs.declared.ids.JobId.{JobId}
-use Rattle.msrp_plan.specs.declared.ids.ResId.{ResId}
-use Rattle.msrp_plan.specs.declared.rows.Row.{Row}
-use Rattle.msrp_plan.specs.declared.units.Op.{Op}
-use Rattle.msrp_plan.specs.declared.units.Phase.{Phase}
-use Rattle.msrp_plan.specs.declared.units.Phase.TheVariants.{Free, Queued, Holding}
-use Rattle.std.proofs.lemmas.Bool.{eqb-true, eq-eqb}
-use Rattle.msrp_plan.specs.States.{moved_by}
+use Rattle.msrp_core.proofs.Common.{ActiveJob, AreActive, AreLocal, Free, HoldSo, Holding, HoldsSo, JobId, Op, Phase, Queued, ResId, Row, advanced, done_in, eq-eqb, eqb-true, is_among, is_newest, is_waiting_phase, moved_by, state_in, units_flat}
 use Rattle.msrp_plan.specs.declared.units.Op.TheVariants.{Run, Lock, Unlock}
-use Rattle.msrp_plan.proofs.TaskUnits.PlanUnits.{units_flat}
-use Rattle.msrp_ready.specs.Ready.{is_among}
-use Rattle.msrp_core.specs.Active.{ActiveJob, done_in, is_waiting_phase, is_newest, state_in, advanced, AreLocal, HoldsSo, HoldSo, AreActive}
 use Rattle.msrp_core.proofs.HeldUnits.{held_test, next_held, locked, unlocked, whole_free}
 use Rattle.msrp_core.proofs.Choices.{at_in, others_done}
 

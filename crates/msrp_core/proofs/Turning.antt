@@ -1,19 +1,8 @@
 -- A turn of a machine: its row is the next one of whatever log the machine stands after.
 use Rattle.std.proofs.Common.{◌≡◌, ◌||◌, ◌∷◌, ◌++◌, ◌∙◌}
 use Rattle.msrp_plan.proofs.Common.{ℕ, Bool, true, false, cond, List, [], Option, Some, None, refl, ap, sym, subst, length, map, inl, inr, list_any, AllByRecursion, Contains, ForSome, or-false, cases_Bool, fold_push, jobs_on, same_job, is_job, choice, does_next, is_idle, phase_with, phase_after, IsCoreTurn, is_on_core, same_choice, JobState, state_after, state_with, same_self, any_in}
-use Rattle.msrp_plan.specs.declared.ids.CoreId.{CoreId}
-use Rattle.msrp_plan.specs.declared.ids.JobId.{JobId}
-use Rattle.msrp_plan.specs.declared.rows.Kind.{Kind}
-use Rattle.msrp_plan.specs.declared.rows.Kind.TheVariants.{Idle}
-use Rattle.msrp_plan.specs.declared.rows.Row.{Row}
-use Rattle.msrp_plan.specs.declared.units.Phase.{Phase}
-use Rattle.msrp_plan.specs.declared.units.Phase.TheVariants.{Free}
-use Rattle.msrp_plan.specs.Actions.{does_unit_after}
-use Rattle.msrp_plan.specs.States.{moved_by}
+use Rattle.msrp_core.proofs.Common.{ActsFor, AreActive, AreJobs, AreToldBy, CoreId, Free, Idle, IsRunning, IsSamePlace, IsTurnOf, JobId, Jobs, Kind, Phase, Row, does_unit_after, is_waiting_phase, moved_by, started_with, state_in, state_of}
 use Rattle.msrp_plan.proofs.Jobs.States.{state_push}
-use Rattle.msrp_core.specs.Active.{is_waiting_phase, state_in, AreActive}
-use Rattle.msrp_core.specs.CoreJobs.{state_of, AreJobs, AreToldBy, IsRunning, IsSamePlace, ActsFor, IsTurnOf, started_with}
-use Rattle.msrp_core.specs.declared.jobs.Jobs.{Jobs}
 use Rattle.msrp_core.proofs.Choices.{at_in}
 use Rattle.msrp_core.proofs.Running.{running_done, running_known, running_queued}
 

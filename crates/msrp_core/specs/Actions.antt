@@ -1,9 +1,7 @@
 -- What a turn does, and the row that says so.
 use Rattle.std.specs.Prelude.{◌≡◌}
 use Rattle.msrp_plan.specs.Common.{ℕ, Option}
-use Rattle.msrp_plan.specs.declared.ids.CoreId.{CoreId}
-use Rattle.msrp_plan.specs.declared.ids.JobId.{JobId}
-use Rattle.msrp_plan.specs.declared.rows.Row.{Row}
+use Rattle.msrp_core.specs.Common.{CoreId, JobId, Row}
 use Rattle.msrp_core.specs.declared.actions.Action.{Action}
 
 -- the row of a turn of this tick, core and job in which this is done

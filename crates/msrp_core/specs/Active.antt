@@ -2,12 +2,8 @@
 -- of these holds, and how many of its units it has done.
 use Rattle.std.specs.Prelude.{◌∷◌, ◌==◌, ◌&&◌, ◌≡◌, ◌<◌, ◌+◌, if◌then◌else◌}
 use Rattle.msrp_plan.specs.Common.{ℕ, List, [], Bool, true, false, nat_eq, Some, length, take, slice_get, ⊤, list_any, AllByRecursion, Contains, PlanModel, units, held_after, jobs_on, same_job, is_global, JobState}
-use Rattle.msrp_plan.specs.declared.ids.JobId.{JobId}
-use Rattle.msrp_plan.specs.declared.ids.ResId.{ResId}
-use Rattle.msrp_plan.specs.declared.units.Phase.{Phase}
-use Rattle.msrp_plan.specs.declared.units.Phase.TheVariants.{Free, Queued, Holding}
+use Rattle.msrp_core.specs.Common.{Free, Holding, JobId, Phase, Queued, ResId, is_among}
 use Rattle.msrp_plan.specs.declared.units.Op.TheVariants.{Lock}
-use Rattle.msrp_ready.specs.Ready.{is_among}
 use Rattle.msrp_stack.specs.Stack.{StartedJob}
 
 -- an active job, the resources that it holds or awaits, the innermost first, and its units done
@@ -38,14 +34,12 @@ done_in plan [] j = length (units plan j)
 done_in plan (s ∷ active) j = if same_job j s.job then s.done else done_in plan active j
 
 abbrev pub is_waiting_phase : Phase → Bool
-is_waiting_phase Free = false
 is_waiting_phase (Queued g) = true
-is_waiting_phase (Holding g) = false
+is_waiting_phase _ = false
 
 abbrev pub is_holding_phase : ResId → Phase → Bool
-is_holding_phase g Free = false
-is_holding_phase g (Queued h) = false
 is_holding_phase g (Holding h) = h.0 == g.0
+is_holding_phase _ _ = false
 
 abbrev pub is_newest : List ActiveJob → JobId → Bool
 is_newest [] j = false

@@ -1,17 +1,12 @@
 -- The stored jobs of a core, and what a turn does to them.
 use Rattle.std.specs.Prelude.{◌∷◌, ◌&&◌, ◌||◌, ◌≡◌, ◌<◌, ◌≤◌, if◌then◌else◌}
 use Rattle.msrp_plan.specs.Common.{ℕ, List, true, Option, Some, None, nat_lt, Bool, length, reverse, slice_get, vec_capacity, AllByRecursion, Contains, ForSome, PlanModel, units, jobs_on, is_job, level, comes_first, does_unit_after, JobState, state_after, IsPlan}
-use Rattle.msrp_plan.specs.declared.ids.JobId.{JobId}
-use Rattle.msrp_plan.specs.declared.rows.Kind.TheVariants.{Idle}
-use Rattle.msrp_plan.specs.declared.rows.Row.{Row}
+use Rattle.msrp_core.specs.Common.{Idle, JobId, Jobs, Row, head, phase_with}
 use Rattle.msrp_plan.specs.declared.units.Op.{Op}
-use Rattle.msrp_plan.specs.Phases.{phase_with}
 use Rattle.msrp_plan.specs.States.{state_with}
-use Rattle.msrp_ready.specs.Ready.{head}
 use Rattle.msrp_stack.specs.Stack.{newest as newest_started}
 use Rattle.msrp_core.specs.Ports.{PortModel, claim_in}
 use Rattle.msrp_core.specs.Active.{ActiveJob, active_of, state_in, is_waiting_phase, HoldSo, AreActive}
-use Rattle.msrp_core.specs.declared.jobs.Jobs.{Jobs}
 
 -- how many units the started jobs have done, the newest first; later entries mean nothing
 abbrev pub units_done : Jobs → List ℕ
@@ -83,14 +78,11 @@ pub record IsRunning (jobs : Jobs) (job : JobId) : Type 0 where
   pub active : active_in jobs ≡ newest ∷ below
   pub same : newest.job ≡ job
 
--- and this is its next unit
+-- the job is the newest active one, and this is its next unit
 pub record CanAct (jobs : Jobs) (job : JobId) (op : Op) : Type 0 where
   pub jobs_fit : AreJobs jobs
-  pub newest : ActiveJob
-  pub below : List ActiveJob
-  pub active : active_in jobs ≡ newest ∷ below
-  pub same : newest.job ≡ job
-  pub unit : slice_get (units jobs.plan.now job) newest.done ≡ Some op
+  pub running : IsRunning jobs job
+  pub unit : slice_get (units jobs.plan.now job) running.newest.done ≡ Some op
 
 -- the core's claim in the port is what the core holds or awaits, it may make another call, and the
 -- port has the plan's resources

@@ -1,7 +1,7 @@
 -- What decides which job of a core runs, by the definitions.
 use Rattle.std.specs.Prelude.{◌≡◌, ◌<◌}
 use Rattle.msrp_plan.specs.Common.{ℕ, List, ForSome, IsSomeAnd, None, Option, PlanModel, length, log_of}
-use Rattle.msrp_plan.specs.declared.rows.Row.{Row}
+use Rattle.msrp_core.specs.Common.{Row}
 use Rattle.msrp_plan.specs.Ceiling as ceilings
 use Rattle.msrp_plan.specs.Choice as choices
 use Rattle.msrp_plan.specs.Jobs as jobs

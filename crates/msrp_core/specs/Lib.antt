@@ -1,3 +1,4 @@
+pub mod Common
 pub mod Ports
 pub mod Active
 pub mod Actions

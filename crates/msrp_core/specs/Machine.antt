@@ -1,12 +1,7 @@
 -- The machine of one core, and the logs that it stands after.
 use Rattle.std.specs.Prelude.{◌≡◌}
 use Rattle.msrp_plan.specs.Common.{ℕ, List, Option, Some, None, IfSome, true, map, length, option_or, PlanModel, jobs_on, is_global, JobState, state_after, in_tick}
-use Rattle.msrp_plan.specs.declared.ids.ResId.{ResId}
-use Rattle.msrp_plan.specs.declared.rows.Kind.TheVariants.{Spin}
-use Rattle.msrp_plan.specs.declared.rows.Row.{Row}
-use Rattle.msrp_plan.specs.declared.units.Phase.{Phase}
-use Rattle.msrp_plan.specs.declared.units.Phase.TheVariants.{Queued}
-use Rattle.msrp_plan.specs.Phases.{phase_after}
+use Rattle.msrp_core.specs.Common.{Phase, Queued, ResId, Row, Spin, phase_after}
 
 -- one core of a plan between two turns: the next turn's tick, what the core has to do with the
 -- global resources, the progress of each job, and the next turn's row if it is known before the

@@ -1,14 +1,11 @@
 -- What a clause sees of a machine, and what its fields hold.
 use Rattle.std.specs.Prelude.{◌∷◌, ◌++◌, ◌==◌, ◌≡◌, ◌≤◌, ◌<◌, ◌+◌, if◌then◌else◌}
 use Rattle.msrp_plan.specs.Common.{ℕ, List, [], Some, None, false, map, ForSome, jobs_on, is_queued, IsCoreTurn}
-use Rattle.msrp_plan.specs.declared.rows.Row.{Row}
-use Rattle.msrp_plan.specs.declared.units.Phase.TheVariants.{Queued}
-use Rattle.msrp_ready.specs.Ready.{has_release_by}
+use Rattle.msrp_core.specs.Common.{Poll, Queued, Row, has_release_by}
 use Rattle.msrp_core.specs.Machine.{MachineModel, StandsAfter}
 use Rattle.msrp_core.specs.CoreJobs.{AreJobs, state_of}
 use Rattle.msrp_core.specs.Repeats.{CanRepeat, Polls, row_again, spin_again}
 use Rattle.msrp_core.specs.declared.machine.Machine.TheInside.{Inside}
-use Rattle.msrp_core.specs.declared.repeats.Poll.{Poll}
 
 abbrev pub machine_view : Inside → MachineModel
 machine_view m =

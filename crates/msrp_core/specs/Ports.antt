@@ -1,11 +1,8 @@
 -- Ports: the calls made of a port, one more call, and the row that it makes.
 use Rattle.msrp_plan.specs.Common.{ℕ, List, [], false, true, Some, map, ⊤, PlanModel, is_global, ResCall, claim_after, kind_of_call, ahead_of_call}
-use Rattle.msrp_plan.specs.declared.ids.CoreId.{CoreId}
-use Rattle.msrp_plan.specs.declared.ids.ResId.{ResId}
-use Rattle.msrp_plan.specs.declared.rows.Row.{Row}
+use Rattle.msrp_core.specs.Common.{CoreId, Phase, ResId, Row}
 use Rattle.msrp_plan.specs.declared.units.Call.{Call}
 use Rattle.msrp_plan.specs.declared.units.Call.TheVariants.{Ask}
-use Rattle.msrp_plan.specs.declared.units.Phase.{Phase}
 use Rattle.std.specs.Prelude.{◌∷◌, ◌++◌, ◌==◌, ◌≡◌, ◌≢◌, ◌≤◌, ◌+◌, filter}
 use Rattle.msrp_core.specs.declared.port.PortCall.{PortCall}
 use Rattle.msrp_core.specs.declared.port.Reply.{Reply}

@@ -1,15 +1,10 @@
 -- The stored facts on a core that repeats its last row.
 use Rattle.msrp_plan.specs.Common.{ℕ, [], Option, Some, None, length, units, HasWork}
-use Rattle.msrp_plan.specs.declared.ids.CoreId.{CoreId}
-use Rattle.msrp_plan.specs.declared.ids.JobId.{JobId}
+use Rattle.msrp_core.specs.Common.{CoreId, Idle, JobId, Jobs, Poll, Row, Run, Spin}
 use Rattle.msrp_plan.specs.declared.rows.Kind.{Kind}
-use Rattle.msrp_plan.specs.declared.rows.Kind.TheVariants.{Idle, Run, Spin}
-use Rattle.msrp_plan.specs.declared.rows.Row.{Row}
 use Rattle.std.specs.Prelude.{◌≡◌, ◌<◌, ◌+◌, refl}
 use Rattle.std.specs.Option.{option_map}
 use Rattle.msrp_core.specs.CoreJobs.{IsRunning}
-use Rattle.msrp_core.specs.declared.jobs.Jobs.{Jobs}
-use Rattle.msrp_core.specs.declared.repeats.Poll.{Poll}
 
 -- the running job has k units of work next, none of them its last unit
 pub record HasWorkLeft (jobs : Jobs) (job : JobId) (k : ℕ) : Type 0 where

@@ -39,9 +39,7 @@ fn row_doing(core: CoreId, tick: u32, job: Option<JobId>, action: Action) -> Row
 // An action on a resource, with no ahead.
 #[inline(always)]
 fn action_on(kind: Kind, res: ResId) -> Action
-    ensures kind { result.kind ≡ kind }
-    ensures res { result.res ≡ Some res }
-    ensures ahead { result.ahead ≡ None }
+    ensures { result ≡ record { kind = kind; res = Some res; ahead = None } }
 {
     Action {
         kind,
@@ -53,12 +51,7 @@ fn action_on(kind: Kind, res: ResId) -> Action
 // A row of a job.
 pub(crate) fn row_on(core: CoreId, tick: u32, kind: Kind, job: JobId, res: Option<ResId>) -> Row
     requires { has_shape kind (Some job) res ≡ true }
-    ensures tick { result.tick ≡ tick }
-    ensures core { result.core ≡ core }
-    ensures kind { result.kind ≡ kind }
-    ensures job { result.job ≡ Some job }
-    ensures res { result.res ≡ res }
-    ensures ahead { result.ahead ≡ None }
+    ensures { IsRowOf tick core (Some job) (record { kind = kind; res = res; ahead = None }) result }
 {
     Row {
         tick,
@@ -72,11 +65,7 @@ pub(crate) fn row_on(core: CoreId, tick: u32, kind: Kind, job: JobId, res: Optio
 
 // The row of a turn in which no job runs.
 pub(crate) fn idle_row(core: CoreId, tick: u32) -> Row
-    ensures tick { result.tick ≡ tick }
-    ensures core { result.core ≡ core }
-    ensures kind { result.kind ≡ Kind.Idle }
-    ensures job { result.job ≡ None }
-    ensures res { result.res ≡ None }
+    ensures { IsRowOf tick core None (record { kind = Kind.Idle; res = None; ahead = None }) result }
 {
     Row {
         tick,
@@ -109,9 +98,7 @@ impl<'a> Jobs<'a> {
     #[inline(always)]
     fn work(&mut self, job: JobId) -> Action
         requires { CanAct self.old job Op.Run }
-        ensures kind { result.kind ≡ Kind.Run }
-        ensures res { result.res ≡ None }
-        ensures ahead { result.ahead ≡ None }
+        ensures action { result ≡ record { kind = Kind.Run; res = None; ahead = None } }
         ensures acts { EachRowOf self.old.core (Some job) result (Acts self.old self.new job) }
         ensures phase { self.new.phase ≡ self.old.phase }
     {
@@ -128,9 +115,7 @@ impl<'a> Jobs<'a> {
     fn lock(&mut self, job: JobId, res: ResId) -> Action
         requires can { CanAct self.old job (Op.Lock res) }
         requires local { is_global self.old.plan.now res.0 ≡ false }
-        ensures kind { result.kind ≡ Kind.Lock }
-        ensures res { result.res ≡ Some res }
-        ensures ahead { result.ahead ≡ None }
+        ensures action { result ≡ record { kind = Kind.Lock; res = Some res; ahead = None } }
         ensures acts { EachRowOf self.old.core (Some job) result (Acts self.old self.new job) }
         ensures phase { self.new.phase ≡ self.old.phase }
     {
@@ -144,9 +129,7 @@ impl<'a> Jobs<'a> {
     fn unlock(&mut self, job: JobId, res: ResId) -> Action
         requires can { CanAct self.old job (Op.Unlock res) }
         requires local { is_global self.old.plan.now res.0 ≡ false }
-        ensures kind { result.kind ≡ Kind.Unlock }
-        ensures res { result.res ≡ Some res }
-        ensures ahead { result.ahead ≡ None }
+        ensures action { result ≡ record { kind = Kind.Unlock; res = Some res; ahead = None } }
         ensures acts { EachRowOf self.old.core (Some job) result (Acts self.old self.new job) }
         ensures phase { self.new.phase ≡ self.old.phase }
     {
@@ -161,9 +144,7 @@ impl<'a> Jobs<'a> {
         requires can { CanAct self.old job (Op.Lock res) }
         requires global { is_global self.old.plan.now res.0 ≡ true }
         requires free { self.old.phase ≡ Phase.Free }
-        ensures kind { result.kind ≡ Kind.Take }
-        ensures res { result.res ≡ Some res }
-        ensures ahead { result.ahead ≡ None }
+        ensures action { result ≡ record { kind = Kind.Take; res = Some res; ahead = None } }
         ensures acts { EachRowOf self.old.core (Some job) result (Acts self.old self.new job) }
         ensures phase { self.new.phase ≡ Phase.Holding res }
     {
@@ -179,9 +160,7 @@ impl<'a> Jobs<'a> {
         requires can { CanAct self.old job (Op.Lock res) }
         requires global { is_global self.old.plan.now res.0 ≡ true }
         requires free { self.old.phase ≡ Phase.Free }
-        ensures kind { result.kind ≡ Kind.Queue }
-        ensures res { result.res ≡ Some res }
-        ensures ahead { result.ahead ≡ Some ahead }
+        ensures action { result ≡ record { kind = Kind.Queue; res = Some res; ahead = Some ahead } }
         ensures acts { EachRowOf self.old.core (Some job) result (Acts self.old self.new job) }
         ensures phase { self.new.phase ≡ Phase.Queued res }
     {
@@ -218,9 +197,7 @@ impl<'a> Jobs<'a> {
     fn granted(&mut self, job: JobId, res: ResId) -> Action
         requires can { CanAct self.old job (Op.Lock res) }
         requires awaits { self.old.phase ≡ Phase.Queued res }
-        ensures kind { result.kind ≡ Kind.Grant }
-        ensures res { result.res ≡ Some res }
-        ensures ahead { result.ahead ≡ None }
+        ensures action { result ≡ record { kind = Kind.Grant; res = Some res; ahead = None } }
         ensures acts { EachRowOf self.old.core (Some job) result (Acts self.old self.new job) }
         ensures phase { self.new.phase ≡ Phase.Holding res }
     {
@@ -267,9 +244,7 @@ impl<'a> Jobs<'a> {
     fn drop_held(&mut self, job: JobId, res: ResId) -> Action
         requires can { CanAct self.old job (Op.Unlock res) }
         requires global { is_global self.old.plan.now res.0 ≡ true }
-        ensures kind { result.kind ≡ Kind.Release }
-        ensures res { result.res ≡ Some res }
-        ensures ahead { result.ahead ≡ None }
+        ensures action { result ≡ record { kind = Kind.Release; res = Some res; ahead = None } }
         ensures acts { EachRowOf self.old.core (Some job) result (Acts self.old self.new job) }
         ensures phase { self.new.phase ≡ Phase.Free }
     {

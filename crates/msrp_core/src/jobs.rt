@@ -3,7 +3,7 @@ ghost use Rattle.std.specs.Prelude.{◌≡◌, ◌<◌, ◌≤◌, ◌+◌, ◌�
 ghost use Rattle.msrp_plan.specs.Common.{[], List, Some, None, true, length, IfOk, vec_capacity, ForSome, Contains, units, jobs_on, choice, comes_first};
 ghost use Rattle.msrp_plan.specs.declared.ids.JobId.{JobId as Job};
 ghost use Rattle.msrp_plan.specs.declared.rows.Row.{Row as TraceRow};
-ghost use Rattle.msrp_ready.specs.Ready.{head};
+ghost use Rattle.msrp_core.specs.Common.{head};
 ghost use Rattle.msrp_stack.specs.Stack.{current_ceiling, newest, top};
 ghost use Rattle.msrp_core.specs.Active.{ActiveJob, advanced};
 ghost use Rattle.msrp_core.specs.CoreStates.{IsCoreState};

@@ -2,7 +2,7 @@
 //! released.
 ghost use Rattle.std.specs.Prelude.{◌≡◌, ◌<◌, ◌≤◌, ◌+◌, ◌%◌, ◌^◌, ◌∷◌};
 ghost use Rattle.msrp_plan.specs.Common.{[], ℕ, List, Some, None, false, length, ForSome, units, HasWork};
-ghost use Rattle.msrp_ready.specs.Ready.{has_release_by};
+ghost use Rattle.msrp_core.specs.Common.{has_release_by};
 ghost use Rattle.msrp_core.specs.Active.{ActiveJob, advanced};
 ghost use Rattle.msrp_core.specs.CoreJobs.{ActsFor, AreJobs, CanAct, Acts, IsRunning, active_in};
 ghost use Rattle.msrp_core.specs.Repeats.{CanRepeat, HasWorkLeft, Polls, kind_again};

@@ -1,12 +1,8 @@
 -- A log that fits its book, and one turn more.
 use Rattle.std.proofs.Common.{◌≡◌, ◌∷◌, ◌++◌, ◌∙◌}
 use Rattle.msrp_plan.proofs.Common.{true, false, cond, is_some, List, [], None, refl, ap, sym, subst, zero, suc, append-nil, filter, filter-append, kind_of_call, all_push}
-use Rattle.msrp_plan.specs.declared.units.Call.{Call}
+use Rattle.msrp_merge.proofs.Common.{Call, Entry, Fits, IsTurnOf, Paired, Turn, has_place, is_step}
 use Rattle.msrp_plan.specs.declared.units.Call.TheVariants.{Ask, Poll, Leave}
-use Rattle.msrp_board.specs.declared.books.Entry.{Entry}
-use Rattle.msrp_merge.specs.declared.logs.Turn.{Turn}
-use Rattle.msrp_merge.specs.Pairs.{Paired}
-use Rattle.msrp_merge.specs.Turns.{has_place, is_step, IsTurnOf, Fits}
 
 -- each call makes a step
 call_is_step : (call : Call) → is_step (kind_of_call call) ≡ true

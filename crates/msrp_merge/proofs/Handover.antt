@@ -5,15 +5,9 @@ use Rattle.msrp_plan.specs.Examples.HandoverATickLater as handover
 use Rattle.msrp_plan.specs.Examples.HandoverWithinATick as within_a_tick
 use Rattle.msrp_plan.proofs.Runs.CoreRuns.{core_run}
 use Rattle.msrp_board.proofs.BrokenBoards.{no_others}
-use Rattle.msrp_board.specs.Boards.{entries_at}
-use Rattle.msrp_board.specs.Books.{on_resource, IsChain}
-use Rattle.msrp_board.specs.History.{Event, by_core, calls, PollsInOrder, IsNotLater, IsServed}
+use Rattle.msrp_merge.proofs.Common.{AreLogs, Event, Fits, IsChain, IsNotLater, IsRowOfEvent, IsServed, Paired, PollsInOrder, by_core, calls, entries_at, is_row_on, log_at, on_resource, rows_of, turns_of}
 use Rattle.msrp_board.specs.Words.{ticket_word}
 use Rattle.msrp_merge.specs.Handover.{logs, books, history}
-use Rattle.msrp_merge.specs.Merging.{log_at, turns_of, AreLogs}
-use Rattle.msrp_merge.specs.Pairs.{Paired}
-use Rattle.msrp_merge.specs.Steps.{is_row_on, IsRowOfEvent}
-use Rattle.msrp_merge.specs.Turns.{rows_of, Fits}
 
 -- ---- the logs
 run : IsRun handover.plan handover.rows

@@ -1,27 +1,11 @@
 -- The turns on a resource, in the order of the merged list, are the history of the resource.
 use Rattle.std.proofs.Common.{◌≡◌, ◌==◌, ◌<◌, ◌≤◌, ◌∷◌, ◌∙◌, ◌⊎◌}
 use Rattle.msrp_plan.proofs.Common.{ℕ, Bool, true, false, cond, not, List, [], Option, Some, refl, ap, sym, subst, arith, inl, inr, AllByRecursion, filter, is_lt, nat_cmp, ordering_then, Less, Equal, Greater, is_on, all_weaker, all_both}
-use Rattle.msrp_plan.specs.declared.ids.ResId.{ResId}
-use Rattle.std.specs.Option.{option_map}
-use Rattle.std.specs.Ordering.{bool_cmp}
-use Rattle.std.specs.declared.cmp.Ordering.{Ordering}
-use Rattle.std.proofs.lemmas.Bool.{eqb-true}
-use Rattle.std.proofs.lemmas.Cmp.{ranked, nat_cmp_total, tied_itself}
+use Rattle.msrp_merge.proofs.Common.{Before, Entry, Event, InOrder, IsChain, IsHistory, IsNotLater, IsTurnOf, IsTurnOfEvent, Lex, Ordering, Paired, Place, ResId, Sorted, Turn, bool_cmp, eqb-true, has_place, is_by, is_poll, is_step_on, nat_cmp_total, nat_equal, on_resource, option_map, rank_cmp, ranked, sorted_history, step_of, step_rank, then_equal, tied_itself}
 use Rattle.std.proofs.lemmas.Map.Keys.{ge_from_not_lt}
-use Rattle.msrp_board.specs.declared.books.Entry.{Entry}
-use Rattle.msrp_board.specs.Books.{on_resource, IsChain}
-use Rattle.msrp_board.specs.History.{Event, is_poll, IsNotLater, IsHistory}
-use Rattle.msrp_board.proofs.Unique.{Lex, step_of, Before, Sorted as SortedEvents, sorted_history}
-use Rattle.msrp_merge.specs.declared.logs.Place.{Place}
-use Rattle.msrp_merge.specs.declared.logs.Turn.{Turn}
-use Rattle.msrp_merge.specs.Order.{step_rank, rank_cmp, InOrder, Sorted}
-use Rattle.msrp_merge.specs.Pairs.{Paired}
-use Rattle.msrp_merge.specs.Sorting.{is_by}
-use Rattle.msrp_merge.specs.Steps.{is_step_on, IsTurnOfEvent}
-use Rattle.msrp_merge.specs.Turns.{has_place, IsTurnOf}
+use Rattle.msrp_board.proofs.Unique.{Sorted as SortedEvents}
 use Rattle.msrp_merge.proofs.Insertion.{sorted_filter}
 use Rattle.msrp_merge.proofs.Pairing.{filters_swap, paired_filter, paired_weaker, Match, paired_whole}
-use Rattle.msrp_plan.proofs.Jobs.Keys.{then_equal, nat_equal}
 
 -- ---- events stand by tick, and as their places say
 abbrev StandsBefore : Event → Event → Type 0

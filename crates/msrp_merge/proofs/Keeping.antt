@@ -1,16 +1,10 @@
 -- What a log keeps of its turns tells them.
 use Rattle.std.proofs.Common.{◌≡◌, ◌+◌, ◌<◌, ◌∷◌, ◌++◌, ◌∙◌}
 use Rattle.msrp_plan.proofs.Common.{ℕ, zero, suc, Option, List, [], length, get_or, is_some, refl, ap, sym, arith, same_row}
-use Rattle.msrp_plan.specs.declared.ids.JobId.{JobId}
-use Rattle.msrp_plan.specs.declared.ids.ResId.{ResId}
-use Rattle.msrp_plan.specs.declared.rows.Row.{Row}
-use Rattle.std.specs.Option.{unwrap_or}
+use Rattle.msrp_merge.proofs.Common.{JobId, Place, ResId, Row, Turn, place_of_touch, turn_of, turns_from, unwrap_or}
 use Rattle.msrp_plan.specs.Shape.{ahead_of_kind, job_of_kind, res_of_kind}
 use Rattle.msrp_plan.proofs.KindParts.{ahead_told, job_told, res_told, same_parts}
 use Rattle.msrp_merge.specs.declared.kept.Kept.{Kept}
-use Rattle.msrp_merge.specs.declared.logs.Place.{Place}
-use Rattle.msrp_merge.specs.declared.logs.Turn.{Turn}
-use Rattle.msrp_merge.specs.Keeping.{place_of_touch, turn_of, turns_from}
 
 -- ---- one turn
 -- a row and a place that are what is told

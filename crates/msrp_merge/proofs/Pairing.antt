@@ -2,9 +2,7 @@
 -- and both stand in order.
 use Rattle.std.proofs.Common.{◌≡◌, ◌≢◌, ◌==◌, ◌&&◌, ◌∷◌, ◌∙◌}
 use Rattle.msrp_plan.proofs.Common.{ℕ, Bool, true, false, cond, List, [], refl, ap, sym, subst, inl, inr, eq-eqb, ne_eqb, AllByRecursion, filter, cases_eq}
-use Rattle.msrp_board.specs.History.{by_core}
-use Rattle.msrp_merge.specs.Order.{Sorted}
-use Rattle.msrp_merge.specs.Pairs.{Paired}
+use Rattle.msrp_merge.proofs.Common.{Paired, Sorted, by_core}
 
 -- ---- filters
 module _ {X : Type 0} (p q r : X → Bool) where

@@ -2,25 +2,14 @@
 -- of the resource.
 use Rattle.std.proofs.Common.{◌≡◌, ◌&&◌, ◌∷◌, ◌++◌, ◌∙◌, ◌⊎◌}
 use Rattle.msrp_plan.proofs.Common.{ℕ, Bool, true, false, cond, List, [], Option, Some, None, refl, ap, sym, subst, append-nil, append_assoc, eq-eqb, inl, inr, filter, true≢false, and_from, map-append, filter-append, PlanModel, is_queued, is_global, is_global_unit, res_of_unit, is_on, fifo, replies, counts, is_reply_of, may_carry, is_queue, EachAfter, IsLegal, is_fifo_reply, replies_on, FifoLock, free_lock, Answers, lock_after, lock_at, lock_from, IsPlan, IsTurn, DoesUnit, legal_turn, idle_res, each_push, own_from_legal, quiet_reply, Runs, Locks, Unlocks, Takes, Grants, Spins, Releases, step_of}
-use Rattle.msrp_plan.specs.declared.ids.JobId.{JobId}
-use Rattle.msrp_plan.specs.declared.ids.ResId.{ResId}
+use Rattle.msrp_merge.proofs.Common.{AreAnswered, AreInterleaved, AreServed, Call, Event, IsRowOfEvent, JobId, Paired, ResId, Row, calls, each_weaker, eqb-true, interleaved_legal, is_row_on, is_step}
 use Rattle.msrp_plan.specs.declared.rows.Kind.{Kind}
 use Rattle.msrp_plan.specs.declared.rows.Kind.TheVariants.{Lock, Unlock}
-use Rattle.msrp_plan.specs.declared.rows.Row.{Row}
-use Rattle.msrp_plan.specs.declared.units.Call.{Call}
-use Rattle.std.proofs.lemmas.Bool.{eqb-true}
-use Rattle.msrp_plan.specs.Logs.{AreInterleaved}
 use Rattle.msrp_plan.specs.FifoLock.{LegalFrom}
 use Rattle.msrp_plan.specs.LockStates.{IsRowOfCall}
 use Rattle.msrp_plan.specs.declared.units.Op.TheVariants.{Lock as LockUnit}
-use Rattle.msrp_plan.proofs.Runs.Interleaving.{AreAnswered, interleaved_legal}
-use Rattle.msrp_plan.proofs.Lists.Prefixes.{each_weaker}
 use Rattle.msrp_plan.proofs.Queues.QueueLocks.{reply_at, agree_at, lock_off, tells_from_answers, turn_from_log}
 use Rattle.msrp_plan.proofs.TaskUnits.UnitKinds.{Queues}
-use Rattle.msrp_board.specs.History.{Event, calls}
-use Rattle.msrp_merge.specs.Pairs.{Paired}
-use Rattle.msrp_merge.specs.Steps.{is_row_on, IsRowOfEvent, AreServed}
-use Rattle.msrp_merge.specs.Turns.{is_step}
 
 -- ---- which rows are steps
 -- the resource of a unit that a row on g does

@@ -1,19 +1,8 @@
 -- The merged list is a legal run, and its steps on each resource are the resource's history.
 use Rattle.std.proofs.Common.{◌≡◌, ◌+◌, ◌/◌, ◌<◌, ◌≤◌, ◌&&◌, ◌∷◌, ◌++◌, ◌∙◌}
 use Rattle.msrp_plan.proofs.Common.{ℕ, zero, suc, Bool, true, false, cond, List, [], length, refl, ap, sym, subst, arith, inl, inr, eq-eqb, ne_eqb, length-append, AllByRecursion, filter, true≢false, cases_lt, and_parts, and_from, length-map, map-append, PlanModel, carries_its_ahead, carries_ahead, is_on, EachAfter, IsCoreTurn, CoreRun, IsRun, is_of, log_of, Legal, IsPlan, all_of, undeclared_local}
-use Rattle.msrp_plan.specs.declared.rows.Row.{Row}
-use Rattle.msrp_plan.specs.Logs.{AreInterleaved}
+use Rattle.msrp_merge.proofs.Common.{AreInterleaved, AreLogs, AreServed, AreTurns, Entry, Event, IsChain, IsHistory, IsMerged, IsNotLater, IsRowOfEvent, IsTurnOf, IsTurnOfEvent, LogModel, Paired, Row, Turn, calls, has_place, interleaved_run, is_by, is_row_on, is_step, is_step_on, rows_of, turn_at, turns_of}
 use Rattle.msrp_plan.proofs.Lists.Filters.{filter_map_same}
-use Rattle.msrp_plan.proofs.Runs.Interleaving.{interleaved_run}
-use Rattle.msrp_board.specs.declared.books.Entry.{Entry}
-use Rattle.msrp_board.specs.Books.{IsChain}
-use Rattle.msrp_board.specs.History.{Event, calls, IsNotLater, IsHistory}
-use Rattle.msrp_merge.specs.declared.logs.Turn.{Turn}
-use Rattle.msrp_merge.specs.Merging.{turns_of, AreLogs}
-use Rattle.msrp_merge.specs.Pairs.{Paired}
-use Rattle.msrp_merge.specs.Sorting.{is_by, IsMerged, AreTurns, turn_at}
-use Rattle.msrp_merge.specs.Steps.{is_step_on, is_row_on, IsTurnOfEvent, IsRowOfEvent, AreServed}
-use Rattle.msrp_merge.specs.Turns.{LogModel, rows_of, has_place, is_step, IsTurnOf}
 use Rattle.msrp_merge.proofs.Histories.{turns_are_history}
 use Rattle.msrp_merge.proofs.Pairing.{paired_weaker}
 use Rattle.msrp_merge.proofs.Replies.{served_answered}

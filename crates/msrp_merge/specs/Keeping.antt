@@ -6,8 +6,7 @@ use Rattle.msrp_plan.specs.Shape.{carrier_of_kind, shape_of_kind}
 use Rattle.msrp_merge.specs.declared.kept.Kept.{Kept}
 use Rattle.msrp_merge.specs.declared.kept.Touch.{Touch}
 use Rattle.msrp_merge.specs.declared.kept.Touch.TheVariants.{Nothing, Step, Poll}
-use Rattle.msrp_merge.specs.declared.logs.Place.{Place}
-use Rattle.msrp_merge.specs.declared.logs.Turn.{Turn}
+use Rattle.msrp_merge.specs.Common.{Place, Turn}
 
 -- a turn that used no global resource has no place
 abbrev pub place_of_touch : Touch → ℕ → Option Place

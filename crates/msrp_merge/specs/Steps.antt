@@ -1,9 +1,7 @@
 -- The steps on a resource, among the turns of all cores, and its history on the board.
 use Rattle.std.specs.Prelude.{◌≡◌, ◌&&◌}
 use Rattle.msrp_plan.specs.Common.{ℕ, List, Bool, true, filter, PlanModel, is_global, Legal, is_on}
-use Rattle.msrp_plan.specs.declared.rows.Row.{Row}
-use Rattle.msrp_board.specs.History.{Event, calls}
-use Rattle.msrp_merge.specs.declared.logs.Turn.{Turn}
+use Rattle.msrp_merge.specs.Common.{Event, Row, Turn, calls}
 use Rattle.msrp_merge.specs.Pairs.{Paired}
 use Rattle.msrp_merge.specs.Turns.{has_place, is_step, IsRowOf, IsTurnOf}
 

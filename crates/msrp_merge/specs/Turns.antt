@@ -2,11 +2,7 @@
 use Rattle.std.specs.Prelude.{◌≡◌}
 use Rattle.msrp_plan.specs.Common.{ℕ, List, Bool, true, false, Some, IfSome, map, is_some, filter, AllByRecursion, kind_of_call, ahead_of_call}
 use Rattle.msrp_plan.specs.declared.rows.Kind.{Kind}
-use Rattle.msrp_plan.specs.declared.rows.Kind.TheVariants.{Take, Queue, Grant, Spin, Release}
-use Rattle.msrp_plan.specs.declared.rows.Row.{Row}
-use Rattle.msrp_board.specs.declared.books.Entry.{Entry}
-use Rattle.msrp_board.specs.History.{is_poll}
-use Rattle.msrp_merge.specs.declared.logs.Turn.{Turn}
+use Rattle.msrp_merge.specs.Common.{Entry, Grant, Queue, Release, Row, Spin, Take, Turn, is_poll}
 use Rattle.msrp_merge.specs.Pairs.{Paired}
 
 -- a core's log: its turns, the oldest first, for at most this many ticks

@@ -1,7 +1,7 @@
 -- A worked merge of steps on two resources in a tick: two cores' logs, with the board's places.
 use Rattle.std.specs.Prelude.{◌∷◌}
 use Rattle.msrp_plan.specs.Common.{List, []}
-use Rattle.msrp_plan.specs.declared.ids.JobId.{JobId}
+use Rattle.msrp_merge.specs.Common.{JobId}
 use Rattle.msrp_plan.specs.Examples.Notation.{job, idle, run, take, release}
 use Rattle.msrp_merge.specs.Handover.{quiet, at}
 use Rattle.msrp_merge.specs.Turns.{LogModel}

@@ -1,15 +1,14 @@
 //! Laws that the merge rests on. Each function does nothing; its contract is the law.
 ghost use Rattle.msrp_plan.specs.Common.{ℕ, List, [], None, map, true, false, PlanModel, EachAfter, is_fifo_reply, IsPlan};
-ghost use Rattle.msrp_plan.specs.declared.rows.Row.{Row};
+ghost use Rattle.msrp_merge.specs.Common.{Entry, Event, IsHistory, Row, Turn};
 ghost use Rattle.std.specs.Prelude.{◌≡◌, ◌∷◌, ◌++◌, filter};
 ghost use Rattle.msrp_plan.specs.Examples.HandoverATickLater as handover_a_tick_later;
 ghost use Rattle.msrp_plan.specs.Examples.HandoverWithinATick as handover_within_a_tick;
 ghost use Rattle.msrp_plan.specs.Logs.{AreInterleaved};
 ghost use Rattle.msrp_board.specs.Boards.{entries_at};
 ghost use Rattle.msrp_board.specs.Books.{IsChain};
-ghost use Rattle.msrp_board.specs.History.{Event, IsHistory, IsNotLater, IsServed};
+ghost use Rattle.msrp_board.specs.History.{IsNotLater, IsServed};
 ghost use Rattle.msrp_board.specs.Words.{ticket_word};
-ghost use Rattle.msrp_board.specs.declared.books.Entry.{Entry};
 ghost use Rattle.msrp_merge.specs.Handover.{books, history, logs};
 ghost use Rattle.msrp_merge.specs.Merging.{AreLogs, turns_of};
 ghost use Rattle.msrp_merge.specs.Order.{InOrder, Sorted};
@@ -18,7 +17,6 @@ ghost use Rattle.msrp_merge.specs.Sorting.{AreTurns, IsMerged, is_by, merged};
 ghost use Rattle.msrp_merge.specs.Steps.{AreServed, IsRowOfEvent, IsTurnOfEvent, is_row_on, is_step_on};
 ghost use Rattle.msrp_merge.specs.Turns.{Fits, IsTurnOf, is_step, rows_of};
 ghost use Rattle.msrp_merge.specs.TwoResources as two_resources;
-ghost use Rattle.msrp_merge.specs.declared.logs.Turn.{Turn};
 
 /// The sort keeps each core's turns in order, one in each tick, and orders those of a tick by rank.
 pub fn sort_keeps_each_log()

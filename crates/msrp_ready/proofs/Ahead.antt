@@ -2,16 +2,8 @@
 -- releases.
 use Rattle.std.proofs.Common.{◌≡◌, ◌-◌, ◌<◌, ◌≤◌, ◌∷◌, ◌++◌, ◌∙◌}
 use Rattle.msrp_plan.proofs.Common.{ℕ, false, cond, List, [], take, drop, length, get_or, Option, Some, None, refl, ap, sym, subst, inl, inr, arith, IfSome, IfNone, IsStrictWeakOrder, All, Contains, ForSome, option_to_list, is_lt, IsUpperBound, cases_Bool, All-from_recursion, All-push, recursion_from_All, Contains-append_left, Contains-append_right, Contains-append_cases, IsPermutation-refl, PlanModel, first_ready}
-use Rattle.msrp_plan.specs.declared.ids.JobKey.{JobKey}
-use Rattle.std.specs.Option.{option_map}
+use Rattle.msrp_ready.proofs.Common.{AreReady, Contains-push, Contains-push_cases, Entry, HeapModel, JobKey, earlier_of, entry_keys, head, is_among, job_of, key_cmp, least_on_top, option_map, without}
 use Rattle.std.proofs.lemmas.List.MinMax.{ranks_by}
-use Rattle.std.proofs.lemmas.List.Elements.{Contains-push, Contains-push_cases}
-use Rattle.msrp_plan.specs.Choice.{key_cmp}
-use Rattle.msrp_ready.specs.Heap.{HeapModel, least_on_top}
-use Rattle.msrp_ready.specs.Keyed.{earlier_of, entry_keys, job_of}
-use Rattle.msrp_ready.specs.Ready.{is_among, head}
-use Rattle.msrp_ready.specs.ReadyView.{without, AreReady}
-use Rattle.msrp_ready.specs.declared.keyed.Entry.{Entry}
 use Rattle.msrp_ready.proofs.Between.{between_slice}
 use Rattle.msrp_ready.proofs.Entries.{keyed_length, keyed_between, keyed_released, keyed_later}
 use Rattle.msrp_ready.proofs.Order.{least_on_top_total}

@@ -1,8 +1,7 @@
 -- What is made of the jobs of a core, gathered task by task and job by job.
 use Rattle.std.proofs.Common.{◌≡◌, ◌+◌, ◌≤◌, ◌==◌, ◌∷◌, ◌++◌, ◌∙◌}
 use Rattle.msrp_plan.proofs.Common.{ℕ, nat_lt, length, Bool, true, false, cond, List, [], map, refl, ap, sym, arith, append_assoc, append-nil, range_with_len, map-append, length-map, map-range_with_len_more, length-range_with_len, length-filter, count_by-le-length, PlanModel, task_at, release, jobs_of, jobs_among}
-use Rattle.msrp_plan.specs.declared.ids.JobId.{JobId}
-use Rattle.msrp_plan.proofs.Jobs.JobLists.{job_at, jobs_among_more}
+use Rattle.msrp_ready.proofs.Common.{JobId, job_at, jobs_among_more}
 
 module _ {X : Type 0} (f : JobId → X) (plan : PlanModel) where
   -- the jobs of a task of the core stand behind those before it

@@ -1,3 +1,4 @@
+pub mod Common
 pub mod Order
 pub mod Walks
 pub mod HeapSteps

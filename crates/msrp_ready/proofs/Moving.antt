@@ -1,21 +1,10 @@
 -- Jobs are released, and the head is taken: what the calendar and the heap then keep.
 use Rattle.std.proofs.Common.{◌≡◌, ◌==◌, ◌+◌, ◌-◌, ◌*◌, ◌<◌, ◌≤◌, ◌&&◌, ◌||◌, ◌∷◌, ◌++◌, ◌∙◌}
 use Rattle.msrp_plan.proofs.Common.{ℕ, zero, suc, Bool, true, false, not, cond, List, [], map, take, drop, length, get_or, Option, Some, None, refl, ap, sym, subst, inl, inr, arith, append_assoc, append-nil, length-append, All, AllByRecursion, Contains, filter, ForSome, IsPermutation, IsNonDecreasingBy, true≢false, cases_Bool, cases_lt, le-leb, take-append-drop, length-take-le, length-map, map-append, All-nil, All-weaker, recursion_from_All, All-contains_itself, Contains-append_right, filter-append, list_any-append, sum_by-cons, sum_by-append, sum_by-take-le, length-filter, count_by-le-length, IsPermutation-refl, IsPermutation-trans, IsPermutation-sym, length_permutation, Contains-permutation, PlanModel, core_of, release, key, jobs, jobs_on, same_job, IsPlan, same_is, same_symm}
-use Rattle.msrp_plan.specs.declared.ids.JobId.{JobId}
-use Rattle.msrp_plan.specs.declared.ids.JobKey.{JobKey}
-use Rattle.std.specs.List.{count_by}
-use Rattle.std.proofs.lemmas.List.Elements.{All-append}
-use Rattle.std.proofs.lemmas.List.Sums.{sum_by-take-drop}
-use Rattle.std.proofs.lemmas.List.Sorted.{IsPermutation-append_left, IsPermutation-append_right, IsPermutation-append_comm, IsPermutation-middle, sum_by-IsPermutation, list_any-IsPermutation}
-use Rattle.msrp_ready.specs.Keyed.{entry, entry_keys, job_of}
-use Rattle.msrp_ready.specs.Heap.{HeapModel}
-use Rattle.msrp_ready.specs.Ready.{is_among, has_come}
-use Rattle.msrp_ready.specs.ReadyView.{has, without, AreReady}
-use Rattle.msrp_ready.specs.declared.keyed.Entry.{Entry}
+use Rattle.msrp_ready.proofs.Common.{All-append, AreReady, Entry, HeapModel, IsPermutation-append_comm, IsPermutation-append_left, IsPermutation-append_right, IsPermutation-middle, JobId, JobKey, count_by, count_map, entry, entry_keys, has, has_come, is_among, job_of, list_any-IsPermutation, sum_by-IsPermutation, sum_by-take-drop, without}
 use Rattle.msrp_ready.proofs.Once.{once_on}
 use Rattle.msrp_ready.proofs.Entries.{keyed_length, keyed_between, keyed_released, keyed_later, keyed_sorted, keyed_all}
 use Rattle.msrp_ready.proofs.Standing.{has_of, among_without, heap_released, come_later, none_come}
-use Rattle.msrp_plan.proofs.Lists.Filters.{count_map}
 use Rattle.msrp_plan.proofs.Tests.{or_off}
 
 -- ---- a list up to a place, and from there up to another

@@ -1,12 +1,7 @@
 -- Each job stands once among the jobs of a core.
 use Rattle.std.proofs.Common.{◌≡◌, ◌+◌, ◌<◌, ◌≤◌, ◌==◌, ◌&&◌, ◌∷◌, ◌∙◌}
 use Rattle.msrp_plan.proofs.Common.{ℕ, zero, suc, nat_eq, Bool, true, false, cond, List, [], length, refl, ap, sym, inl, inr, arith, sum_by, filter, flat_map, range_with_len, cases_Bool, sum_by-cons, sum_by-append, PlanModel, core_of, IsPlan, jobs_of, jobs, jobs_on, same_job, jobs_of_are}
-use Rattle.msrp_plan.specs.declared.ids.JobId.{JobId}
-use Rattle.std.specs.List.{count_by}
-use Rattle.std.proofs.lemmas.Bool.{eqb-true}
-use Rattle.std.proofs.lemmas.List.Sums.{sum_by-le-sum_by}
-use Rattle.msrp_plan.proofs.Jobs.JobLists.{job_at}
-use Rattle.msrp_plan.proofs.Lists.Filters.{count_map}
+use Rattle.msrp_ready.proofs.Common.{JobId, count_by, count_map, eqb-true, job_at, sum_by-le-sum_by}
 
 -- ---- counts
 count-cons : {X : Type 0} (p : X → Bool) (x : X) (xs : List X) → count_by p (x ∷ xs) ≡ cond (p x) 1 0 + count_by p xs

@@ -1,16 +1,8 @@
 -- Whether a tick releases a job of the core, that was not released before.
 use Rattle.msrp_plan.proofs.Common.{ℕ, nat_le, Bool, true, false, not, List, [], take, drop, length, get_or, Option, Some, None, ap, sym, subst, inl, inr, arith, AllByRecursion, Contains, list_any, ForSome, and-false, and-true, cases_Bool, cases_lt, leb-false, lt-leb, and_from, or_parts, take-append-drop, get_or-drop, get_or_default, get_or-map, All-contains, All-contains_itself, All-weaker, Contains-append_right, Contains-append_cases, PlanModel, release, key, jobs_on, is_released, is_before, least, first_ready, any_in, none_kept, filter_same}
-use Rattle.msrp_plan.specs.declared.ids.JobId.{JobId}
-use Rattle.msrp_plan.specs.declared.ids.JobKey.{JobKey}
+use Rattle.msrp_ready.proofs.Common.{AreReady, Contains-get_or, Entry, HeapModel, IsComing, JobId, JobKey, ReadyModel, entry_key, entry_keys, has_come, has_release_by, head, is_among, job_of, length-drop}
 use Rattle.std.proofs.Common.{◌≡◌, ◌<◌, ◌≤◌, ◌^◌, ◌&&◌, ◌∷◌, ◌∙◌, add-zero}
-use Rattle.std.proofs.lemmas.List.{length-drop}
-use Rattle.std.proofs.lemmas.List.Elements.{Contains-get_or}
 use Rattle.std.proofs.lemmas.List.Folds.{list_any_none}
-use Rattle.msrp_ready.specs.Keyed.{entry_key, entry_keys, job_of}
-use Rattle.msrp_ready.specs.Heap.{HeapModel}
-use Rattle.msrp_ready.specs.Ready.{ReadyModel, has_come, head, is_among, has_release_by}
-use Rattle.msrp_ready.specs.ReadyView.{AreReady, IsComing}
-use Rattle.msrp_ready.specs.declared.keyed.Entry.{Entry}
 use Rattle.msrp_ready.proofs.Entries.{keyed_length}
 use Rattle.msrp_ready.proofs.Standing.{all_keyed, all_on_core, come_later, in_calendar, none_come}
 

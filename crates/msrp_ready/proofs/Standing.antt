@@ -2,16 +2,7 @@
 -- first is the head.
 use Rattle.std.proofs.Common.{◌≡◌, ◌+◌, ◌<◌, ◌≤◌, ◌&&◌, ◌||◌, ◌∷◌, ◌++◌, ◌∙◌}
 use Rattle.msrp_plan.proofs.Common.{ℕ, nat_le, Bool, true, false, not, cond, List, [], map, take, drop, length, get_or, Option, Some, None, refl, ap, sym, subst, inl, inr, arith, All, Contains, filter, list_any, IsNonDecreasingBy, ForSome, is_lt, IsUpperBound, true≢false, cases_Bool, leb-true, le-leb, lt-leb, and_parts, not-true, take-append-drop, get_or-drop, length-map, get_or-map, All-contains, All-contains_itself, All-from_recursion, Contains-append_left, Contains-append_right, Contains-append_cases, IsPermutation-sym, All-permutation, Contains-permutation, PlanModel, release, key, jobs_on, same_job, is_before, least, before_order, tied, same_is, same_self, least_passes, least_in, least_some, least_of_those, any_in}
-use Rattle.msrp_plan.specs.declared.ids.JobId.{JobId}
-use Rattle.msrp_plan.specs.declared.ids.JobKey.{JobKey}
-use Rattle.std.proofs.lemmas.Bool.{and_right, not-false}
-use Rattle.std.proofs.lemmas.List.{length-drop}
-use Rattle.std.proofs.lemmas.List.Elements.{All-map}
-use Rattle.msrp_plan.specs.Choice.{key_cmp}
-use Rattle.msrp_ready.specs.Keyed.{job_of}
-use Rattle.msrp_ready.specs.Heap.{HeapModel, least_on_top}
-use Rattle.msrp_ready.specs.Ready.{ReadyModel, is_among, has_come, head}
-use Rattle.msrp_ready.specs.ReadyView.{has, without, AreReady}
+use Rattle.msrp_ready.proofs.Common.{All-map, AreReady, HeapModel, JobId, JobKey, ReadyModel, and_right, has, has_come, head, is_among, job_of, key_cmp, least_on_top, length-drop, not-false, without}
 
 -- ---- a release that has come by a tick has come by each later one
 pub come_later : (tick : Option ℕ) (t r : ℕ) → ForSome tick (λ before. before ≤ t) → has_come tick r ≡ true → has_come (Some t) r ≡ true

@@ -9,10 +9,6 @@ use Rattle.msrp_ready.specs.declared.keyed.Entry.{Entry}
 abbrev pub entry : PlanModel → JobId → Entry
 entry plan j = record { release = release plan j; task = j.task.0; k = j.k }
 
--- the job of an entry
-abbrev pub entry_job : Entry → JobId
-entry_job e = record { task = record { 0 = e.task }; k = e.k }
-
 -- the key of an entry's job, with the release of the entry
 abbrev pub entry_key : PlanModel → Entry → JobKey
 entry_key plan e = record { deadline = e.release + (task_at plan e.task).deadline; release = e.release; task = e.task; k = e.k }

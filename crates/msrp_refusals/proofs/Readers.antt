@@ -11,10 +11,7 @@ use Rattle.msrp_board.specs.Seats.{BoardModel, SeatModel, IsCoreSeat, IsCoreSeat
 pub may_step : (board : BoardModel) (seat : SeatModel) (phase : SeatPhase) (acted : Bool) (lock told : Phase) → IsCoreSeatOn board seat → ((c : ℕ) (b : Book) → IsCoreSeat seat c b → phase ≡ phase_in seat.board.size.ticks b) → phase ≡ Admitted
     → ((c : ℕ) (b : Book) → IsCoreSeat seat c b → acted ≡ has_acted b) → acted ≡ false → ((c : ℕ) (b : Book) → IsCoreSeat seat c b → told ≡ lock_of b) → told ≡ lock → MayAct lock seat
 may_step board seat phase acted lock told s stands let_in quiet none claims is = record {
-  core = s.core.0;
-  book = s.core.1;
-  of_core = s.core.2;
-  stands = sym (stands s.core.0 s.core.1 s.core.2) ∙ let_in;
+  at = record { core = s.core.0; book = s.core.1; of_core = s.core.2; stands = sym (stands s.core.0 s.core.1 s.core.2) ∙ let_in };
   quiet = sym (quiet s.core.0 s.core.1 s.core.2) ∙ none;
   claims = sym (claims s.core.0 s.core.1 s.core.2) ∙ is;
 }

@@ -1,16 +1,9 @@
 -- The jobs of each core that are started and unfinished, and which of the later ones comes first.
 use Rattle.std.proofs.Common.{◌≡◌, ◌<◌, ◌≤◌, ◌==◌, ◌&&◌, ◌||◌, ◌∷◌, ◌++◌, ◌∙◌, ◌⊎◌}
 use Rattle.msrp_plan.proofs.Common.{ℕ, Bool, true, false, not, cond, List, [], Option, Some, None, refl, ap, sym, subst, arith, inl, inr, eqb-true, length, map, length-map, AllByRecursion, Contains, filter, list_any, or-true, true≢false, and_from, and_parts, true_from_ne_false, cases_Bool, All-contains, All-from_recursion, PlanModel, core_of, task_of, jobs, jobs_on, same_job, is_started, is_finished, is_before, comes_first, first_later, EachAfter, IsLegal, IsPlan, known_task, all_weaker, any_map, all_filtered, any_from, kept_by, same_is, same_self, some_is, before_order, tied, legal_turn, turn_chosen, irrefl, least_in, least_of_those, least_passes, least_some}
-use Rattle.std.specs.List.{IsDistinct}
-use Rattle.msrp_plan.specs.declared.ids.JobId.{JobId}
-use Rattle.msrp_plan.specs.declared.rows.Row.{Row}
-use Rattle.std.proofs.Math.Dec.{eqb}
+use Rattle.msrp_report.proofs.Common.{AreActiveOf, CoreJobs, IsDistinct, IsFirstOf, IsKnown, JobId, NotBefore, Row, before_due, eqb, head_ready, is_active, is_later_active, live, same_task, sound_at}
 use Rattle.std.proofs.lemmas.Map.Steps.{length-le_from_distinct_below}
-use Rattle.msrp_plan.proofs.Blocking.Sound.{before_due, head_ready, sound_at}
-use Rattle.msrp_plan.proofs.Choosing.Live.{live}
 use Rattle.msrp_plan.proofs.Choosing.Turns.{has_turn, later_waits, runs_live, none_some}
-use Rattle.msrp_report.specs.Inside.Tallies.{AreActiveOf, IsFirstOf, IsKnown, NotBefore, is_active, is_later_active, same_task}
-use Rattle.msrp_report.specs.declared.tallies.active.CoreJobs.{CoreJobs}
 use Rattle.msrp_report.proofs.JobTallies.{job_known}
 
 -- ---- one job of a task is active at most

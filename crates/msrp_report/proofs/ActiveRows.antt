@@ -1,14 +1,8 @@
 -- One row more: which jobs are started and unfinished.
 use Rattle.std.proofs.Common.{◌≡◌, ◌≢◌, ◌<◌, ◌≤◌, ◌==◌, ◌&&◌, ◌||◌, ◌∷◌, ◌++◌, ◌∙◌, ◌⊎◌}
 use Rattle.msrp_plan.proofs.Common.{ℕ, Bool, true, false, not, List, [], Some, None, refl, ap, sym, subst, arith, inl, inr, eqb-true, length, length-append, slice_get, slice_set, get_or, vec_capacity, AllByRecursion, Contains, filter, list_any, or-false, or-true, cases_Bool, eqb-false, false_from_ne_true, length-set, All-contains_itself, recursion_from_All, same_Some, slice_get_read, PlanModel, core_of, jobs, jobs_on, is_job, is_row_of, same_job, is_started, is_finished, IsLegal, IsRunStart, IsPlan, on_its_core, row_of_job, same_is, same_self, same_symm, legal_turn, turn_core, all_both, all_push, any_in, any_push, all_filtered, each_before, start_last}
-use Rattle.std.specs.List.{IsDistinct}
-use Rattle.msrp_plan.specs.declared.ids.JobId.{JobId}
-use Rattle.msrp_plan.specs.declared.rows.Row.{Row}
+use Rattle.msrp_report.proofs.Common.{AreActive, AreActiveOf, CoreJobs, IsDistinct, JobId, Row, get_set_other, get_set_same, is_active, live_kept, same_task}
 use Rattle.std.proofs.lemmas.Map.Views.{any-filter_same}
-use Rattle.msrp_plan.proofs.Choosing.Live.{live_kept}
-use Rattle.msrp_sim.proofs.Standing.{get_set_same, get_set_other}
-use Rattle.msrp_report.specs.Inside.Tallies.{AreActive, AreActiveOf, is_active, same_task}
-use Rattle.msrp_report.specs.declared.tallies.active.CoreJobs.{CoreJobs}
 use Rattle.msrp_report.proofs.Active.{alone, apart_filter, apart_push, few_apart, turn_active}
 use Rattle.msrp_report.proofs.JobTallies.{job_known}
 use Rattle.msrp_report.proofs.Waiting.{started_push}

@@ -1,15 +1,8 @@
 -- What is counted of a job, row by row, is what the rows tell of it.
 use Rattle.msrp_plan.proofs.Common.{ℕ, Bool, true, false, not, cond, eqb-true, List, [], Option, Some, None, refl, ap, sym, arith, length, count_by, fold, max, unwrap_or, append-nil, filter, list_any, false_from_ne_true, sum_by-cons, fold_push, count_by-le-length, filter-append, is_queue, is_row_of, is_started, is_waiting, done}
-use Rattle.msrp_plan.specs.declared.ids.JobId.{JobId}
-use Rattle.msrp_plan.specs.declared.rows.Kind.{Kind}
-use Rattle.msrp_plan.specs.declared.rows.Kind.TheVariants.{Queue, Spin, Grant}
-use Rattle.msrp_plan.specs.declared.rows.Row.{Row}
+use Rattle.msrp_report.proofs.Common.{Grant, JobCount, JobId, Kind, Queue, Row, Spin, count_of, counted, is_grant, is_spin, is_spin_of, last_tick, longest_wait, spins, spins_to_grant, uncounted, wait_with}
 use Rattle.std.proofs.Common.{◌≡◌, ◌≤◌, ◌+◌, ◌==◌, ◌&&◌, ◌||◌, ◌∷◌, ◌++◌, ◌∙◌, add_assoc, zero-add, add-zero}
 use Rattle.std.proofs.lemmas.List.Folds.{fold_along}
-use Rattle.msrp_plan.specs.Laws.{is_grant, is_spin, is_spin_of}
-use Rattle.msrp_report.specs.declared.counts.JobCount.{JobCount}
-use Rattle.msrp_report.specs.Lines.{last_tick, spins, spins_to_grant, longest_wait}
-use Rattle.msrp_report.specs.Inside.Counts.{wait_with, uncounted, counted, count_of}
 
 -- ---- row by row
 -- what the rows leave of a count

@@ -1,21 +1,10 @@
 -- Where the jobs of a plan stand among what is kept of them.
 use Rattle.msrp_plan.proofs.Common.{ℕ, zero, suc, not, Bool, true, false, List, [], Option, Some, None, refl, ap, sym, subst, arith, length, map, slice_get, get_or, nat_lt, cond, fold, unwrap_or, mul_comm, AllByRecursion, Contains, range_with_len, All-contains, All-from_recursion, mul-le-mul_right, mul-le-mul_left, div_below, slice_get_read, PlanModel, core_of, jobs, jobs_of, jobs_on, job_at, is_row_of, is_started, is_finished, is_before, blocked, count_after, IsRunStart, IsPlan, job_on, jobs_of_are, all_weaker, least_in, kept_by, known_task}
-use Rattle.msrp_plan.specs.declared.ids.JobId.{JobId}
-use Rattle.msrp_plan.specs.declared.rows.Row.{Row}
+use Rattle.msrp_report.proofs.Common.{AreTallies, By, CanCount, HasRoom, HasTallied, IsBlocking, IsJobTally, IsKnown, IsTallyOf, JobCount, JobId, JobTally, Over, Row, Tallies, TaskTally, ToldOf, WaitsFor, all_flat, blocks, count_of, last_tick}
 use Rattle.std.proofs.Common.{◌≡◌, ◌<◌, ◌≤◌, ◌+◌, ◌==◌, ◌&&◌, ◌∷◌, ◌++◌, ◌∙◌, ◌*◌, filter}
-use Rattle.msrp_plan.specs.Blocking.{blocks}
-use Rattle.msrp_plan.proofs.Lists.AnyAll.{all_flat}
 use Rattle.msrp_plan.proofs.Jobs.CoreJobs.{known_released}
-use Rattle.msrp_report.specs.Inside.Counts.{CanCount, count_of, HasRoom}
-use Rattle.msrp_report.specs.Lines.{last_tick}
-use Rattle.msrp_report.specs.declared.counts.JobCount.{JobCount}
-use Rattle.msrp_report.specs.declared.tallies.Tallies.{Tallies}
 use Rattle.msrp_report.proofs.JobCounts.{AreFew, counts_few, last_is, wait_within}
-use Rattle.msrp_report.specs.Inside.Tallies.{AreTallies, HasTallied, IsBlocking, IsJobTally, IsKnown, IsTallyOf, ToldOf, WaitsFor}
 use Rattle.msrp_report.specs.declared.numbers.JobNumbers.{JobNumbers}
-use Rattle.msrp_report.specs.declared.tallies.Blocking.TheVariants.{Over, By}
-use Rattle.msrp_report.specs.declared.tallies.JobTally.{JobTally}
-use Rattle.msrp_report.specs.declared.tallies.TaskTally.{TaskTally}
 use Rattle.msrp_report.proofs.Waiting.{waits_told}
 
 -- ---- a job of the plan

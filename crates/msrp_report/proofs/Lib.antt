@@ -1,3 +1,4 @@
+pub mod Common
 pub mod JobCounts
 pub mod Waits
 pub mod Waiting

@@ -1,20 +1,12 @@
 -- The line of a task, job by job.
 use Rattle.std.proofs.Common.{◌≡◌, ◌<◌, ◌≤◌, ◌+◌, ◌∷◌, ◌++◌, ◌∙◌, ◌==◌}
 use Rattle.msrp_plan.proofs.Common.{ℕ, zero, suc, Bool, true, false, cond, List, [], refl, ap, sym, subst, arith, length, map, max, append-nil, eqb-true, eq-eqb, nat_lt, list_any, filter, range_with_len, AllByRecursion, true≢false, false_from_ne_true, map-append, filter-append, length-map-range_with_len, sum_by_push, length-filter, count_by-le-length, PlanModel, task_at, release, job_at, jobs_of, is_finished, greatest, uses, blocked, IsRunStart, IsPlan, greatest_push, jobs_of_are, any_map, any_in, any_from, kept_by, range_more}
-use Rattle.msrp_plan.specs.declared.ids.JobId.{JobId}
+use Rattle.msrp_report.proofs.Common.{JobId, Line, Row, blocked_bound, in_range, is_late, job_in, line_of, line_over, line_with, longest_wait, numbers_of, response, spins, task_spin_bound}
 use Rattle.msrp_plan.specs.declared.ids.TaskId.{TaskId}
-use Rattle.msrp_plan.specs.declared.rows.Row.{Row}
-use Rattle.msrp_plan.specs.Bounds.{blocked_bound}
 use Rattle.msrp_plan.proofs.Blocking.Sections.{greatest_within}
 use Rattle.msrp_plan.proofs.Blocking.Bound.{bounded_blocking}
-use Rattle.msrp_levels.proofs.PlanJobs.{job_in}
-use Rattle.msrp_plan.proofs.Lists.AnyAll.{in_range}
 use Rattle.msrp_plan.proofs.Lists.Members.{in_filter}
 use Rattle.msrp_levels.specs.Users.{users}
-use Rattle.msrp_report.specs.Lines.{is_late, response, spins, longest_wait, task_spin_bound, line_over, line_of}
-use Rattle.msrp_report.specs.Inside.Numbers.{numbers_of}
-use Rattle.msrp_report.specs.Inside.Totals.{line_with}
-use Rattle.msrp_report.specs.declared.lines.Line.{Line}
 use Rattle.msrp_report.proofs.Waits.{longest_within}
 
 -- ---- the greatest so far

@@ -1,19 +1,9 @@
 -- The next releases of all tasks in one list, the earliest first.
 use Rattle.std.proofs.Common.{◌≡◌, ◌≢◌, ◌<◌, ◌≤◌, ◌+◌, ◌-◌, ◌==◌, ◌∷◌, ◌++◌, ◌∙◌, ◌⊎◌}
 use Rattle.msrp_plan.proofs.Common.{ℕ, zero, suc, nat_le, true, false, cond, List, [], Some, refl, ap, sym, subst, arith, inl, inr, length, map, take, drop, slice_get, slice_set, get_or, count_by, eqb-true, eq-eqb, All, insert, range_with_len, IsNonDecreasingBy, IsPermutation, true≢false, cases_Bool, eqb-false, false_from_ne_true, leb-false, leb-true, lt-leb, get_or-map, length-map, All-weaker, length-range_with_len, All-permutation, Contains-permutation, IsPermutation-map, IsPermutation-trans, sum_by-cons, same_Some, PlanModel}
-use Rattle.std.specs.List.{IsDistinct}
-use Rattle.msrp_plan.specs.declared.ids.JobId.{JobId}
-use Rattle.std.specs.List.{copy_within}
-use Rattle.std.proofs.Math.Dec.{eqb}
-use Rattle.std.proofs.lemmas.List.Elements.{All-cons}
+use Rattle.msrp_report.proofs.Common.{All-cons, AreReleases, IsDistinct, IsNextRelease, IsNonDecreasingBy-insert, IsPermutation-insert, JobId, NextRelease, TaskTally, ToldOf, copy_within, eqb, get_set_other, get_set_same, in_range, is_due, release_or_end, sum_by-IsPermutation}
 use Rattle.std.proofs.lemmas.List.FromFn.{get_or-range_with_len}
-use Rattle.std.proofs.lemmas.List.Sorted.{IsNonDecreasingBy-insert, IsPermutation-insert, sum_by-IsPermutation}
 use Rattle.std.proofs.lemmas.Map.Keys.{IsDistinct-IsPermutation, IsDistinct-from_apart, apart_from_distinct}
-use Rattle.msrp_plan.proofs.Lists.AnyAll.{in_range}
-use Rattle.msrp_sim.proofs.Standing.{get_set_same, get_set_other}
-use Rattle.msrp_report.specs.Inside.Tallies.{AreReleases, IsNextRelease, ToldOf, is_due, release_or_end}
-use Rattle.msrp_report.specs.declared.tallies.NextRelease.{NextRelease}
-use Rattle.msrp_report.specs.declared.tallies.TaskTally.{TaskTally}
 use Rattle.msrp_report.proofs.JobTallies.{task_read}
 
 abbrev pub tick_of : NextRelease → ℕ

@@ -3,10 +3,8 @@ use Rattle.std.proofs.Common.{◌≡◌, ◌≤◌, ◌+◌, ◌*◌, ◌∷◌,
 use Rattle.msrp_plan.proofs.Common.{ℕ, Bool, true, false, cond, List, [], Option, Some, None, refl, ap, sym, subst, length, map, nat_lt, take, drop, All, range_with_len, ltb-true, take-append-drop, All-from_recursion, PlanModel, IsRun, IsRunStart, broken, fault_in, fault_or, IsPlan, fault_push, start_is_good, unbroken_is_legal}
 use Rattle.msrp_plan.specs.declared.faults.Rule.{Rule}
 use Rattle.msrp_plan.specs.declared.faults.Rule.TheVariants.{A7}
-use Rattle.msrp_plan.specs.declared.rows.Row.{Row}
+use Rattle.msrp_report.proofs.Common.{Line, Row, line_of}
 use Rattle.msrp_plan.proofs.Runs.Verdicts.{run_before, start_push}
-use Rattle.msrp_report.specs.Lines.{line_of}
-use Rattle.msrp_report.specs.declared.lines.Line.{Line}
 use Rattle.msrp_report.proofs.LineJobs.{all_blocked_kept, spins_kept}
 
 -- ---- a row without a fault goes on with the rows

@@ -1,23 +1,13 @@
 -- What is kept of the rows stays told by them, with one row more.
 use Rattle.std.proofs.Common.{◌≡◌, ◌≢◌, ◌<◌, ◌≤◌, ◌+◌, ◌*◌, ◌/◌, ◌==◌, ◌∷◌, ◌++◌, ◌∙◌, ◌⊎◌}
 use Rattle.msrp_plan.proofs.Common.{ℕ, Bool, true, false, cond, List, [], Some, None, refl, ap, sym, subst, arith, inl, inr, length, length-append, slice_get, slice_set, nat_lt, eqb-true, AllByRecursion, Contains, cases_Bool, cases_lt, eqb-false, false_from_ne_true, ltb-true, ltb-false, true_from_ne_false, length-set, div_below, slice_get_within, same_Some, PlanModel, core_of, units, done, jobs, jobs_of, jobs_on, job_at, is_job, is_row_of, same_job, is_started, is_finished, blocked, IsLegal, IsRunStart, IsPlan, job_on, row_of_job, same_is, legal_due, legal_turn, all_push, all_weaker, kept_by, each_at, start_last}
-use Rattle.msrp_plan.specs.declared.ids.JobId.{JobId}
-use Rattle.msrp_plan.specs.declared.rows.Row.{Row}
+use Rattle.msrp_report.proofs.Common.{AreTallies, Counts, HaveBegun, IsJobTally, IsNextOf, IsTaskTally, JobCount, JobId, JobTally, Over, Row, Tallies, TaskTally, ToldOf, count_of, counted, get_set_other, get_set_same, job_in, release_or_end}
 use Rattle.std.proofs.lemmas.Nat.{le-div}
 use Rattle.msrp_plan.specs.Scheduling.{IsOfReleased}
 use Rattle.msrp_plan.proofs.Blocking.OneSection.{tick_grows}
 use Rattle.msrp_plan.proofs.Scheduling.Released.{runs_released}
-use Rattle.msrp_sim.proofs.Standing.{get_set_same, get_set_other}
-use Rattle.msrp_report.specs.Inside.Counts.{counted, count_of}
-use Rattle.msrp_report.specs.Inside.Tallies.{AreTallies, Counts, HaveBegun, IsJobTally, IsNextOf, IsTaskTally, ToldOf, release_or_end}
-use Rattle.msrp_report.specs.declared.counts.JobCount.{JobCount}
-use Rattle.msrp_report.specs.declared.tallies.Blocking.TheVariants.{Over}
-use Rattle.msrp_report.specs.declared.tallies.JobTally.{JobTally}
-use Rattle.msrp_report.specs.declared.tallies.Tallies.{Tallies}
-use Rattle.msrp_report.specs.declared.tallies.TaskTally.{TaskTally}
 use Rattle.msrp_report.proofs.JobCounts.{count_push, done_is}
 use Rattle.msrp_report.proofs.JobTallies.{of_task}
-use Rattle.msrp_levels.proofs.PlanJobs.{job_in}
 use Rattle.msrp_report.proofs.TallySteps.{due_before}
 use Rattle.msrp_report.proofs.Waiting.{IsTimely, blocking_more, own_over, started_over}
 

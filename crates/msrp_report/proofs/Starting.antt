@@ -1,14 +1,7 @@
 -- Before the first row.
 use Rattle.std.proofs.Common.{◌≡◌, ◌∙◌}
 use Rattle.msrp_plan.proofs.Common.{ℕ, false, List, [], Some, refl, ap, sym, subst, arith, inl, inr, length, map, nat_lt, slice_get, All, range_with_len, IsNonDecreasingBy, IsPermutation, true≢false, cases_lt, le-ltb, All-weaker, All-permutation, IsPermutation-map, div_below, PlanModel, task_at, jobs_of, job_at, IsPlan}
-use Rattle.msrp_plan.specs.declared.ids.JobId.{JobId}
-use Rattle.msrp_report.specs.Inside.Counts.{uncounted, count_of}
-use Rattle.msrp_report.specs.Inside.Tallies.{AreActive, AreReleases, AreTallies, HasTallied, IsJobTally, IsNextRelease, IsTaskTally, release_or_end}
-use Rattle.msrp_report.specs.declared.tallies.Blocking.TheVariants.{Over}
-use Rattle.msrp_report.specs.declared.tallies.JobTally.{JobTally}
-use Rattle.msrp_report.specs.declared.tallies.NextRelease.{NextRelease}
-use Rattle.msrp_report.specs.declared.tallies.TaskTally.{TaskTally}
-use Rattle.msrp_report.specs.declared.tallies.Tallies.{Tallies}
+use Rattle.msrp_report.proofs.Common.{AreActive, AreReleases, AreTallies, HasTallied, IsJobTally, IsNextRelease, IsTaskTally, JobId, JobTally, NextRelease, Over, Tallies, TaskTally, count_of, release_or_end, uncounted}
 use Rattle.msrp_report.proofs.Releases.{task_of, tick_of}
 
 -- a job that isn't released

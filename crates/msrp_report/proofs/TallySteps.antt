@@ -1,22 +1,12 @@
 -- What is kept of the rows stays told by them, release by release and row by row.
 use Rattle.std.proofs.Common.{◌≡◌, ◌≢◌, ◌<◌, ◌≤◌, ◌+◌, ◌==◌, ◌∙◌, ◌⊎◌}
 use Rattle.msrp_plan.proofs.Common.{ℕ, Bool, true, false, cond, List, Option, Some, None, IsSome, refl, ap, sym, subst, arith, inl, inr, length, slice_get, slice_set, get_or, nat_lt, unwrap_or, eqb-true, AllByRecursion, IsNonDecreasingBy, IsPermutation, true≢false, cases_Bool, cases_lt, eqb-false, le-ltb, lt-ltb, length-set, slice_get_within, slice_get_read, same_Some, PlanModel, task_at, release, jobs_of, job_at, first_later, IsPlan}
-use Rattle.msrp_plan.specs.declared.ids.JobId.{JobId}
-use Rattle.msrp_plan.specs.declared.rows.Row.{Row}
+use Rattle.msrp_report.proofs.Common.{AreActive, AreReleases, AreTallies, Blocking, By, HasReleased, HasTallied, IsBlocking, IsJobTally, IsNextRelease, IsOver, IsTaskTally, JobId, JobTally, NextRelease, Over, Row, Tallies, TaskTally, blocking_by, get_set_other, get_set_same, is_due, job_in, release_or_end}
 use Rattle.msrp_plan.specs.Plan.{release_tick}
 use Rattle.msrp_plan.proofs.Jobs.Releases.{releases_rise, task_times}
-use Rattle.msrp_sim.proofs.Standing.{get_set_same, get_set_other}
-use Rattle.msrp_report.specs.Inside.Tallies.{AreActive, AreReleases, AreTallies, HasReleased, HasTallied, IsBlocking, IsJobTally, IsNextRelease, IsOver, IsTaskTally, blocking_by, is_due, release_or_end}
-use Rattle.msrp_report.specs.declared.tallies.Blocking.{Blocking}
-use Rattle.msrp_report.specs.declared.tallies.Blocking.TheVariants.{Over, By}
-use Rattle.msrp_report.specs.declared.tallies.JobTally.{JobTally}
-use Rattle.msrp_report.specs.declared.tallies.NextRelease.{NextRelease}
-use Rattle.msrp_report.specs.declared.tallies.Tallies.{Tallies}
-use Rattle.msrp_report.specs.declared.tallies.TaskTally.{TaskTally}
 use Rattle.msrp_report.proofs.JobTallies.{job_known}
 use Rattle.msrp_report.proofs.Releases.{due_come, due_some, none_due, releases_next, task_known, tick_of}
 use Rattle.msrp_report.proofs.Waiting.{released_by}
-use Rattle.msrp_levels.proofs.PlanJobs.{job_in}
 
 -- ---- the releases of a task
 tick_is : (plan : PlanModel) (t k : ℕ) → IsSome (release_tick plan (job_at t k)) → release_tick plan (job_at t k) ≡ Some (release plan (job_at t k))

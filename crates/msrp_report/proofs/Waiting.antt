@@ -1,17 +1,10 @@
 -- How long a job is blocked, told at its release and at its start.
 use Rattle.std.proofs.Common.{◌≡◌, ◌<◌, ◌≤◌, ◌+◌, ◌&&◌, ◌||◌, ◌∷◌, ◌++◌, ◌∙◌}
 use Rattle.msrp_plan.proofs.Common.{ℕ, Bool, true, false, not, cond, List, [], Option, Some, None, refl, ap, sym, subst, arith, count_by, append_assoc, append-nil, AllByRecursion, Contains, true≢false, sum_by-append, sum_by-cons, false_from_ne_true, PlanModel, release, jobs, is_row_of, is_started, blocked, count_after, first_later, is_before, IsLegal, IsRunStart, IsPlan, some_is, before_order, all_push, any_push, or_parts, irrefl, each_before, each_at, start_before}
-use Rattle.msrp_plan.specs.declared.ids.JobId.{JobId}
-use Rattle.msrp_plan.specs.declared.rows.Row.{Row}
-use Rattle.msrp_plan.specs.Blocking.{blocks, is_by, ComesBefore, ComesAfter}
+use Rattle.msrp_report.proofs.Common.{Blocking, By, ComesAfter, ComesBefore, IsBlocking, IsOver, IsSinceRelease, JobId, Over, Row, WaitsFor, blocking_by, blocks, count_of, is_by, unstarted}
 use Rattle.msrp_plan.proofs.Blocking.FromRelease.{blocked_since_release, started_unblocked, early_unblocked}
 use Rattle.msrp_plan.proofs.Blocking.Heads.{blocking_row}
-use Rattle.msrp_plan.proofs.Blocking.Sound.{unstarted}
 use Rattle.msrp_plan.proofs.Blocking.SectionRows.{count_after_push}
-use Rattle.msrp_report.specs.Inside.Counts.{count_of}
-use Rattle.msrp_report.specs.Inside.Tallies.{IsSinceRelease, IsOver, WaitsFor, IsBlocking, blocking_by}
-use Rattle.msrp_report.specs.declared.tallies.Blocking.{Blocking}
-use Rattle.msrp_report.specs.declared.tallies.Blocking.TheVariants.{Over, By}
 use Rattle.msrp_report.proofs.JobCounts.{rows_is}
 
 -- ---- rows since the release

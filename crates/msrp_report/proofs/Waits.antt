@@ -1,18 +1,12 @@
 -- No wait of a run has more spins than the bound of its task.
 use Rattle.std.proofs.Common.{◌≡◌, ◌≤◌, ◌+◌, ◌&&◌, ◌||◌, ◌∷◌, ◌++◌, ◌∙◌}
 use Rattle.msrp_plan.proofs.Common.{ℕ, Bool, true, false, cond, List, [], Some, refl, ap, sym, subst, arith, count_by, append_assoc, slice_get, eq-eqb, length, list_any, Contains, and_parts, and_from, sum_by-cons, PlanModel, task_of, core_of, units, is_queue, is_lock_of, is_row_of, is_queued, done, uses, is_global, resources, is_global_unit, res_of_unit, allows, is_on, spin_bound, EachAfter, IsLegal, IsRunStart, IsPlan, any_in, DoesUnit, legal_turn, greatest_above, each_before, each_at, units_lock, is_job_is}
-use Rattle.msrp_plan.specs.declared.ids.JobId.{JobId}
+use Rattle.msrp_report.proofs.Common.{JobId, Kind, Queue, Row, in_range, is_grant, is_grant_of, is_granted, is_queue_of, is_spin_of, longest_wait, spins_to_grant, task_spin_bound}
 use Rattle.msrp_plan.specs.declared.ids.ResId.{ResId}
 use Rattle.msrp_plan.specs.declared.units.Op.{Op}
-use Rattle.msrp_plan.specs.declared.rows.Kind.{Kind}
-use Rattle.msrp_plan.specs.declared.rows.Kind.TheVariants.{Queue}
-use Rattle.msrp_plan.specs.declared.rows.Row.{Row}
-use Rattle.msrp_plan.specs.Laws.{is_grant, is_grant_of, is_spin_of}
 use Rattle.msrp_plan.specs.declared.units.Op.TheVariants.{Run as RunUnit, Lock as LockUnit, Unlock as UnlockUnit}
-use Rattle.msrp_plan.proofs.Lists.AnyAll.{in_range}
 use Rattle.msrp_plan.proofs.TaskUnits.PlanUnits.{unit_in}
 use Rattle.msrp_plan.proofs.Spinning.SpinBound.{spins_within}
-use Rattle.msrp_report.specs.Lines.{is_queue_of, is_granted, spins_to_grant, longest_wait, task_spin_bound}
 
 -- ---- the rows up to the next grant
 record UpToGrant (j : JobId) (rows : List Row) : Type 0 where

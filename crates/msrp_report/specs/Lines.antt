@@ -1,10 +1,8 @@
 -- A report on each task: counts over the rows of a trace, and the plan's bounds. (The survey of
 -- Davis and Burns 2011 has the terms: response time, spin delay, blocking.)
 use Rattle.msrp_plan.specs.Common.{ℕ, List, [], Bool, nat_lt, nat_le, fold, map, max, count_by, length, sum_by, range_with_len, PlanModel, TaskModel, task_at, key, release, is_queue, jobs_of, is_row_of, is_finished, uses, is_global, greatest, resources, is_grant, is_spin_of, spin_bound, blocked_bound, blocked}
-use Rattle.msrp_plan.specs.declared.ids.JobId.{JobId}
-use Rattle.msrp_plan.specs.declared.rows.Row.{Row}
+use Rattle.msrp_report.specs.Common.{JobId, Line, Row}
 use Rattle.std.specs.Prelude.{◌∷◌, ◌&&◌, ◌+◌, ◌-◌, if◌then◌else◌, filter}
-use Rattle.msrp_report.specs.declared.lines.Line.{Line}
 
 -- ---- response
 -- the tick of the job's last row, 0 if it has none

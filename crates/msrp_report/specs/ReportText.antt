@@ -2,7 +2,7 @@
 use Rattle.std.specs.Prelude.{◌∷◌, ◌++◌}
 use Rattle.msrp_plan.specs.Common.{ℕ, List, [], codes, decimal, length, slice_index_or, flat_map, range_with_len, PlanModel, task_at}
 use Rattle.msrp_text.specs.PlanText.{record_text}
-use Rattle.msrp_report.specs.declared.lines.Line.{Line}
+use Rattle.msrp_report.specs.Common.{Line}
 
 -- used in place of a line that a report lacks
 abbrev pub no_line : Line

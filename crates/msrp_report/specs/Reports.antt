@@ -1,7 +1,7 @@
 -- A report while rows arrive.
-use Rattle.std.specs.Prelude.{◌≡◌, ◌≤◌, ◌+◌, ◌++◌, ◌∷◌}
-use Rattle.msrp_plan.specs.Common.{ℕ, List, None, length, vec_capacity, [], fault_in, IsPlan}
-use Rattle.msrp_plan.specs.declared.rows.Row.{Row}
+use Rattle.std.specs.Prelude.{◌≡◌, ◌≤◌, ◌++◌, ◌∷◌}
+use Rattle.msrp_plan.specs.Common.{List, None, length, vec_capacity, [], fault_in, IsPlan}
+use Rattle.msrp_report.specs.Common.{Row}
 use Rattle.msrp_report.specs.Inside.Tallies.{HasTallied}
 use Rattle.msrp_report.specs.declared.counter.Counter.{Counter}
 
@@ -20,11 +20,3 @@ SomeCounted c = (rows : List Row) × HasCounted c rows
 -- some rows were counted, and with this one more they have no fault
 abbrev pub MayCount : Counter → Row → Type 0
 MayCount c r = (rows : List Row) × HasCounted c rows × (fault_in c.plan.now (rows ++ r ∷ []) ≡ None)
-
--- such a row may be one of that tick
-abbrev pub MayBegin : Counter → ℕ → Type 0
-MayBegin c t = (r : Row) × MayCount c r × (r.tick ≡ t)
-
--- it is the last tick that has begun
-abbrev pub HasBegun : Counter → ℕ → Type 0
-HasBegun c t = c.tallies.begun ≡ t + 1

@@ -23,7 +23,7 @@ pub struct Counter<'a> {
 }
 
 impl<'a> Counter<'a> {
-    ghost use Rattle.msrp_report.specs.Reports.{HasBegun, HasCounted, MayBegin, MayCount, SomeCounted};
+    ghost use Rattle.msrp_report.specs.Reports.{HasCounted, MayCount, SomeCounted};
 
     /// A counter before the first row, with all the memory that it will ever need; [`Memory`] only
     /// if memory runs out. The levels are the plan's.
@@ -51,32 +51,7 @@ impl<'a> Counter<'a> {
         ensures plan { self.new.plan ≡ self.old.plan }
         ensures counted { (rows : List TraceRow) → HasCounted self.old rows → fault_in self.old.plan.now (rows ++ row ∷ []) ≡ None → HasCounted self.new (rows ++ row ∷ []) }
     {
-        self.begin_tick(row.tick);
-        self.count_begun(row);
-    }
-
-    /// Begins the tick of the next row, unless it has begun, with its releases. Allocates nothing.
-    #[inline(always)]
-    pub fn begin_tick(&mut self, tick: u32)
-        requires { MayBegin self.old tick }
-        ensures plan { self.new.plan ≡ self.old.plan }
-        ensures counted { (rows : List TraceRow) (row : TraceRow) → HasCounted self.old rows → fault_in self.old.plan.now (rows ++ row ∷ []) ≡ None → row.tick ≡ tick → HasCounted self.new rows }
-        ensures begun { HasBegun self.new tick }
-    {
-        self.tallies.reach(self.plan, tick);
-    }
-
-    /// Counts the next row of a legal start, of the tick begun last: for a caller that begins a
-    /// tick once for all its rows, where [`count`](Counter::count) tries with each. Allocates
-    /// nothing.
-    #[inline(always)]
-    pub fn count_begun(&mut self, row: Row)
-        requires row { MayCount self.old row }
-        requires begun { HasBegun self.old row.tick }
-        ensures plan { self.new.plan ≡ self.old.plan }
-        ensures counted { (rows : List TraceRow) → HasCounted self.old rows → fault_in self.old.plan.now (rows ++ row ∷ []) ≡ None → HasCounted self.new (rows ++ row ∷ []) }
-        ensures begun { HasBegun self.new row.tick }
-    {
+        self.tallies.reach(self.plan, row.tick);
         self.tallies.feed(self.plan, row);
     }
 

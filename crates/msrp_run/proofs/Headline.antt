@@ -1,24 +1,10 @@
 -- From the workers' logs and the settled board to the trace.
 use Rattle.std.proofs.Common.{◌≡◌, ◌⊎◌, ◌<◌, ◌≤◌, ◌∙◌}
 use Rattle.msrp_plan.proofs.Common.{ℕ, List, [], length, Bool, true, false, nat_lt, Some, refl, sym, ap, subst, arith, inl, inr, slice_get, is_some, ltb-false, ltb-true, get_or_from_slice_get, slice_get_within, PlanModel, IsPlan, carries_ahead}
-use Rattle.msrp_plan.specs.declared.rows.Row.{Row}
+use Rattle.msrp_run.proofs.Common.{Aborted, AllWorked, AreDone, AreLogs, BoardModel, BoardSize, Book, Done, Event, Fits, HasAll, HasEnded, HasRun, IsCalledOff, IsHistory, IsMergeOf, IsRowOfEvent, IsRunOfBoard, IsServedAs, IsTied, IsWhole, IsWorked, LogModel, Opened, Paired, Row, SeatModel, Stopped, WholeBoard, admissions, admissions_of, book_at, empty_book, entries_at, is_row_on, log_at, ordered, phase_by, phase_in, rows_of, size_of, turns_of}
 use Rattle.std.specs.Prelude.{filter}
-use Rattle.msrp_board.specs.declared.answers.SeatPhase.TheVariants.{Done, Stopped}
-use Rattle.msrp_board.specs.declared.books.Book.{Book}
-use Rattle.msrp_board.specs.declared.books.BoardSize.{BoardSize}
-use Rattle.msrp_board.specs.declared.books.Conductor.TheVariants.{Opened, Aborted}
-use Rattle.msrp_board.specs.Books.{phase_by, phase_in, admissions, admissions_of}
-use Rattle.msrp_board.specs.Boards.{WholeBoard, IsTied, entries_at}
-use Rattle.msrp_board.specs.History.{Event, IsHistory}
-use Rattle.msrp_board.specs.Seats.{BoardModel, SeatModel, HasAll, book_at, empty_book}
 use Rattle.msrp_plan.proofs.Runs.KeptLaws.{keeps_laws}
-use Rattle.msrp_merge.specs.Merging.{AreLogs, IsMergeOf, log_at, turns_of, size_of}
-use Rattle.msrp_merge.specs.Pairs.{Paired}
-use Rattle.msrp_merge.specs.Steps.{is_row_on, IsRowOfEvent}
-use Rattle.msrp_merge.specs.Turns.{LogModel, Fits, rows_of}
 use Rattle.msrp_run.specs.declared.workers.Ended.{Ended}
-use Rattle.msrp_run.specs.Threads.{AllWorked, AreDone, HasEnded, HasRun, IsCalledOff, IsRunOfBoard, IsServedAs, ordered}
-use Rattle.msrp_run.specs.Work.{IsWhole, IsWorked}
 use Rattle.msrp_run.proofs.Working.{none_left}
 
 below_or : (c n : ℕ) → (c < n) ⊎ (n ≤ c)

@@ -1,38 +1,13 @@
 -- A turn through a seat port: what the machine says of its row, and what the port tells of the
 -- step, make the log's turn.
 use Rattle.msrp_plan.proofs.Common.{ℕ, zero, suc, List, [], Bool, true, false, nat_lt, Option, Some, None, refl, sym, ap, subst, arith, inl, inr, not, is_some, IfSome, map, map-append, fold_push, PlanModel, is_global, is_global_unit, res_of_unit, ResCall, claim_with, claim_after, IsDueCall, kind_of_call, ahead_of_call, phase_with, phase_after, IsCoreTurn, CoreRun, is_queue, IsTurn, DoesUnit, turn_of, each_push, Runs, Locks, Unlocks, Takes, Grants, Spins, Releases, step_of}
-use Rattle.msrp_plan.specs.declared.ids.CoreId.{CoreId}
+use Rattle.msrp_run.proofs.Common.{AddsCall, Admitted, Ask, BoardModel, BoardSize, Book, Call, CoreId, Entry, Free, HasAsked, HasTurned, IsCoreSeat, IsKept, IsQuiet, IsSeat, IsStepSince, IsTurnOf, Leave, LogModel, MachineModel, MakesCall, MayTurn, NoStep, OneStep, Phase, Place, Poll, PortCall, PortModel, ResId, Row, SeatModel, StandsAfter, Turn, admissions_of, book_with_entry, calls_by, calls_in, claim_in, core_changed, core_is_one, core_with, has_acted, is_poll, is_step, lock_of, phase_by, phase_in, port_adds, port_calls, port_of, port_room, res_calls, room_by, room_in, rows_of, with_entry}
 use Rattle.msrp_plan.specs.declared.ids.JobId.{JobId}
-use Rattle.msrp_plan.specs.declared.ids.ResId.{ResId}
 use Rattle.msrp_plan.specs.declared.rows.Kind.{Kind}
 use Rattle.msrp_plan.specs.declared.rows.Kind.TheVariants.{Idle, Run, Lock, Unlock, Take, Queue, Grant, Spin, Release}
-use Rattle.msrp_plan.specs.declared.rows.Row.{Row}
-use Rattle.msrp_plan.specs.declared.units.Call.{Call}
-use Rattle.msrp_plan.specs.declared.units.Call.TheVariants.{Ask, Poll, Leave}
-use Rattle.msrp_plan.specs.declared.units.Phase.{Phase}
-use Rattle.msrp_plan.specs.declared.units.Phase.TheVariants.{Free}
 use Rattle.std.proofs.Common.{◌≡◌, ◌<◌, ◌≤◌, ◌∷◌, ◌++◌, ◌∙◌, ◌||◌, true≢false}
 use Rattle.msrp_plan.proofs.TaskUnits.UnitKinds.{Queues}
-use Rattle.msrp_board.specs.declared.answers.SeatPhase.TheVariants.{Admitted}
-use Rattle.msrp_board.specs.declared.books.Book.{Book}
-use Rattle.msrp_board.specs.declared.books.BoardSize.{BoardSize}
-use Rattle.msrp_board.specs.declared.books.Entry.{Entry}
-use Rattle.msrp_board.specs.Books.{phase_by, phase_in, admissions_of, has_acted, lock_of, res_calls, IsKept}
-use Rattle.msrp_board.specs.History.{is_poll}
-use Rattle.msrp_board.specs.Seats.{BoardModel, SeatModel, IsSeat, IsCoreSeat}
-use Rattle.msrp_board.specs.SeatPorts.{calls_in, port_calls, port_room, room_in, room_by, AddsCall}
-use Rattle.msrp_board.specs.Steps.{with_entry, book_with_entry}
-use Rattle.msrp_board.proofs.CoreSeats.{core_is_one, core_changed}
-use Rattle.msrp_board.proofs.SeatPortLemmas.{port_adds}
 use Rattle.msrp_board.proofs.Told.{res_calls_last}
-use Rattle.msrp_core.specs.Machine.{MachineModel, StandsAfter}
-use Rattle.msrp_core.specs.Ports.{PortModel, claim_in, MakesCall, IsQuiet}
-use Rattle.msrp_core.specs.declared.port.PortCall.{PortCall}
-use Rattle.msrp_merge.specs.declared.logs.Place.{Place}
-use Rattle.msrp_merge.specs.declared.logs.Turn.{Turn}
-use Rattle.msrp_merge.specs.Turns.{LogModel, rows_of, is_step, IsTurnOf}
-use Rattle.msrp_run.specs.Ports.{calls_by, port_of, IsStepSince, HasAsked}
-use Rattle.msrp_run.specs.Turns.{MayTurn, HasTurned, NoStep, OneStep, core_with}
 use Rattle.msrp_run.proofs.Ports.{own_calls, core_is}
 use Rattle.msrp_plan.proofs.Queues.Calls.{call_as_row}
 

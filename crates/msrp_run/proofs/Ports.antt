@@ -2,23 +2,7 @@
 -- adds one call.
 use Rattle.std.proofs.Common.{◌==◌, ◌≡◌, ◌<◌, ◌≤◌, ◌∷◌, ◌++◌, ◌∙◌}
 use Rattle.msrp_plan.proofs.Common.{ℕ, List, [], map, cond, Bool, true, false, Option, Some, None, refl, sym, ap, subst, arith, eq-eqb, filter, map-append, ResCall, claim_after, IsDueCall}
-use Rattle.msrp_plan.specs.declared.ids.CoreId.{CoreId}
-use Rattle.msrp_plan.specs.declared.ids.ResId.{ResId}
-use Rattle.msrp_plan.specs.declared.units.Call.{Call}
-use Rattle.msrp_plan.specs.declared.units.Phase.{Phase}
-use Rattle.msrp_board.specs.declared.answers.SeatPhase.{SeatPhase}
-use Rattle.msrp_board.specs.declared.answers.SeatPhase.TheVariants.{Waiting, Admitted, Done, Stopped}
-use Rattle.msrp_board.specs.declared.books.Book.{Book}
-use Rattle.msrp_board.specs.Books.{phase_in, has_acted}
-use Rattle.msrp_board.specs.History.{is_poll}
-use Rattle.msrp_board.specs.Seats.{BoardModel, SeatModel, MayAct, book_at}
-use Rattle.msrp_board.specs.SeatPorts.{port_calls, port_room, room_in, room_by, IsPort, AddsCall}
-use Rattle.msrp_board.specs.Steps.{with_entry}
-use Rattle.msrp_board.proofs.SeatPortLemmas.{port_core, port_acts, port_adds}
-use Rattle.msrp_core.specs.Ports.{Adds, calls_of, res_call, claim_in}
-use Rattle.msrp_core.specs.declared.port.PortCall.{PortCall}
-use Rattle.msrp_merge.specs.declared.logs.Place.{Place}
-use Rattle.msrp_run.specs.Ports.{calls_by, port_of, IsStepSince, IsSeatPort}
+use Rattle.msrp_run.proofs.Common.{Adds, AddsCall, Admitted, BoardModel, Book, Call, CoreId, Done, IsPort, IsSeatPort, IsStepSince, MayAct, Phase, Place, PortCall, ResId, SeatModel, SeatPhase, Stopped, Waiting, book_at, calls_by, calls_of, claim_in, has_acted, is_poll, phase_in, port_acts, port_adds, port_calls, port_core, port_of, port_room, res_call, room_by, room_in, with_entry}
 
 -- the calls of the seat's core are all of them
 pub own_calls : (core : CoreId) (xs : List ResCall) → calls_of core.0 (calls_by core xs) ≡ xs

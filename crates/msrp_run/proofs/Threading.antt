@@ -2,19 +2,10 @@
 use Rattle.std.proofs.Common.{◌≡◌, ◌+◌, ◌<◌, ◌≤◌, ◌∷◌, ◌++◌, ◌∙◌}
 use Rattle.msrp_plan.proofs.Common.{ℕ, List, [], None, length, get_or, arith, refl, subst, sym, ap, inl, inr, length-append, is_some, true, get_or_append_left, get_or-append_seam, cases_eq, PlanModel}
 use Rattle.std.specs.declared.thread.PromisedHandle.{PromisedHandle}
-use Rattle.msrp_board.specs.declared.books.Book.{Book}
+use Rattle.msrp_run.proofs.Common.{Aborted, AllAreNew, AllWorked, AreNewParts, ArePromised, BoardModel, Book, CoreParts, HasOthers, HasRest, HasWorked, IsCoreSeat, IsNew, IsPromise, IsWorked, LogModel, SeatModel, alone, alone_is_core, book_at, both, either, empty_book, log_at, size_of, with_conductor, without}
 use Rattle.msrp_board.specs.declared.books.Conductor.{Conductor}
-use Rattle.msrp_board.specs.declared.books.Conductor.TheVariants.{Aborted}
-use Rattle.msrp_board.specs.Seats.{BoardModel, SeatModel, IsCoreSeat, book_at, empty_book}
-use Rattle.msrp_board.specs.Steps.{alone, without, both, either, with_conductor}
-use Rattle.msrp_board.proofs.CoreSeats.{alone_is_core}
 use Rattle.msrp_board.proofs.SeatBooks.{book_at-without_other, book_of_first, book_of_second, no_other_book}
-use Rattle.msrp_merge.specs.Merging.{size_of, log_at}
-use Rattle.msrp_merge.specs.Turns.{LogModel}
-use Rattle.msrp_run.specs.declared.workers.CoreParts.{CoreParts}
 use Rattle.msrp_run.specs.declared.workers.WorkPromise.{WorkPromise}
-use Rattle.msrp_run.specs.Threads.{AreNewParts, AllAreNew, HasOthers, HasRest, IsPromise, ArePromised, AllWorked}
-use Rattle.msrp_run.specs.Work.{IsNew, IsWorked, HasWorked}
 
 -- ---- the parts of the cores
 pub parts_more : (plan : PlanModel) (all_parts : List CoreParts) (parts : CoreParts) → AllAreNew plan all_parts → AreNewParts plan (length all_parts) parts → AllAreNew plan (all_parts ++ parts ∷ [])

@@ -1,23 +1,8 @@
 -- A worker's steps: its core is let in, has its turn and arrives, or is told to stop.
 use Rattle.std.proofs.Common.{◌≡◌, ◌+◌, ◌≤◌, ◌&&◌, ◌∷◌, ◌++◌, ◌∙◌}
 use Rattle.msrp_plan.proofs.Common.{ℕ, suc, List, [], Bool, true, false, nat_lt, refl, sym, ap, subst, arith, inl, inr, length-append, length, list_all-append, ltb-false, PlanModel, carries_its_ahead, carries_ahead, CoreRun}
-use Rattle.msrp_plan.specs.declared.rows.Row.{Row}
-use Rattle.msrp_board.specs.declared.answers.SeatPhase.{SeatPhase}
-use Rattle.msrp_board.specs.declared.answers.SeatPhase.TheVariants.{Waiting, Admitted, Done}
-use Rattle.msrp_board.specs.declared.books.Book.{Book}
-use Rattle.msrp_board.specs.declared.books.BoardSize.{BoardSize}
-use Rattle.msrp_board.specs.declared.books.Entry.{Entry}
-use Rattle.msrp_board.specs.Books.{phase_by, phase_in, admissions_of, lock_of}
-use Rattle.msrp_board.specs.Seats.{BoardModel, SeatModel, IsSeat, IsCoreSeat}
-use Rattle.msrp_board.specs.Steps.{book_with_admission, with_admission, book_with_stop, with_stop, book_with_arrival, with_arrival}
-use Rattle.msrp_board.proofs.CoreSeats.{core_changed, waiting_book, not_acted}
-use Rattle.msrp_core.specs.Machine.{MachineModel, StandsAfter}
-use Rattle.msrp_merge.specs.declared.logs.Turn.{Turn}
-use Rattle.msrp_merge.specs.Merging.{size_of}
-use Rattle.msrp_merge.specs.Turns.{LogModel, rows_of, Fits}
+use Rattle.msrp_run.proofs.Common.{Admitted, BoardModel, BoardSize, Book, Done, Entry, Fits, HasTurned, HasWorked, IsAtWork, IsCoreSeat, IsOneStep, IsSeat, LogModel, MachineModel, MayTurn, NoStep, OneStep, Row, SeatModel, SeatPhase, StandsAfter, Turn, Waiting, admissions_of, book_with_admission, book_with_arrival, book_with_stop, core_changed, core_with, lock_of, not_acted, phase_by, phase_in, rows_of, size_of, waiting_book, with_admission, with_arrival, with_stop}
 use Rattle.msrp_merge.proofs.Fitting.{fits_quiet, fits_step}
-use Rattle.msrp_run.specs.Turns.{MayTurn, HasTurned, IsOneStep, NoStep, OneStep, core_with}
-use Rattle.msrp_run.specs.Work.{IsAtWork, HasWorked}
 use Rattle.msrp_run.proofs.OneTurn.{rows_longer, run_longer}
 
 -- let into its tick, the core may have its turn

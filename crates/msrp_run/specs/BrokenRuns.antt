@@ -2,8 +2,7 @@
 use Rattle.std.specs.Prelude.{◌∷◌}
 use Rattle.msrp_plan.specs.Common.{[], false, true}
 use Rattle.msrp_plan.specs.declared.units.Call.TheVariants.{Ask}
-use Rattle.msrp_board.specs.declared.books.Conductor.TheVariants.{Opened}
-use Rattle.msrp_board.specs.Boards.{WholeBoard}
+use Rattle.msrp_run.specs.Common.{Opened, WholeBoard}
 use Rattle.msrp_board.specs.BrokenBoards.{step}
 use Rattle.msrp_board.specs.Words.{ticket_word}
 

@@ -1,3 +1,4 @@
+pub mod Common
 pub mod BrokenRuns
 pub mod Ports
 pub mod Turns

@@ -1,17 +1,13 @@
 -- A core's seat as the port of its machine, and the one step that is made through it.
 use Rattle.std.specs.Prelude.{◌≡◌, ◌⊎◌}
 use Rattle.msrp_plan.specs.Common.{ℕ, List, [], Option, Some, None, map, ResCall, claim_after, IsDueCall, PlanModel}
-use Rattle.msrp_plan.specs.declared.rows.Row.{Row}
+use Rattle.msrp_run.specs.Common.{BoardModel, Place, Row, SeatModel, is_poll, with_entry}
 use Rattle.msrp_plan.specs.declared.ids.CoreId.{CoreId}
 use Rattle.msrp_plan.specs.declared.ids.ResId.{ResId}
 use Rattle.msrp_plan.specs.declared.units.Call.{Call}
-use Rattle.msrp_board.specs.History.{is_poll}
-use Rattle.msrp_board.specs.Seats.{BoardModel, SeatModel}
 use Rattle.msrp_board.specs.SeatPorts.{IsPort, port_calls, port_room}
-use Rattle.msrp_board.specs.Steps.{with_entry}
 use Rattle.msrp_core.specs.Ports.{PortModel, IsQuiet, MakesCall}
 use Rattle.msrp_core.specs.declared.port.PortCall.{PortCall}
-use Rattle.msrp_merge.specs.declared.logs.Place.{Place}
 
 -- the calls of one core
 abbrev pub calls_by : CoreId → List ResCall → List PortCall

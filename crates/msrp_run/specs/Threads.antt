@@ -1,25 +1,13 @@
 -- The workers of all cores: what they are given, what their threads promise, and what they leave.
 use Rattle.msrp_plan.specs.Common.{ℕ, List, [], Bool, true, false, Some, IsSome, IsTrue, length, slice_get, slice_index, slice_index_or, carries_ahead, PlanModel, IsRun}
-use Rattle.msrp_plan.specs.declared.rows.Row.{Row}
+use Rattle.msrp_run.specs.Common.{Aborted, AreLogs, BoardModel, Book, Done, Entry, Event, IsServed, IsTied, LogModel, Opened, Row, SeatModel, StandsAfter, Turn, Unopened, WholeBoard, book_at, empty_book, entries_at, log_at, phase_in, rows_of, size_of, turns_of}
 use Rattle.std.specs.Prelude.{◌≡◌, ◌<◌, ◌≤◌, filter}
 use Rattle.std.specs.declared.thread.PromisedHandle.{PromisedHandle}
-use Rattle.msrp_board.specs.declared.answers.SeatPhase.TheVariants.{Done}
-use Rattle.msrp_board.specs.declared.books.Book.{Book}
 use Rattle.msrp_board.specs.declared.books.Conductor.{Conductor}
-use Rattle.msrp_board.specs.declared.books.Conductor.TheVariants.{Unopened, Opened, Aborted}
-use Rattle.msrp_board.specs.declared.books.Entry.{Entry}
 use Rattle.msrp_plan.specs.Laws.{KeepsLaws}
-use Rattle.msrp_board.specs.Boards.{WholeBoard, IsTied, entries_at}
-use Rattle.msrp_board.specs.Books.{phase_in}
-use Rattle.msrp_board.specs.History.{Event, IsServed}
-use Rattle.msrp_board.specs.Seats.{BoardModel, SeatModel, book_at, empty_book}
-use Rattle.msrp_core.specs.Machine.{StandsAfter}
-use Rattle.msrp_merge.specs.declared.logs.Turn.{Turn}
-use Rattle.msrp_merge.specs.Merging.{AreLogs, log_at, size_of, turns_of}
 use Rattle.msrp_merge.specs.Pairs.{Paired}
 use Rattle.msrp_merge.specs.Sorting.{IsMerged}
 use Rattle.msrp_merge.specs.Steps.{is_row_on, IsRowOfEvent}
-use Rattle.msrp_merge.specs.Turns.{LogModel, rows_of}
 use Rattle.msrp_run.specs.declared.workers.Ended.{Ended}
 use Rattle.msrp_run.specs.declared.workers.CoreParts.{CoreParts}
 use Rattle.msrp_run.specs.declared.workers.WorkPromise.{WorkPromise}

@@ -1,17 +1,7 @@
 -- One core's turn on a board: its machine, log and seat before the turn, and after it.
 use Rattle.std.specs.Prelude.{◌≡◌, ◌++◌, ◌∷◌}
 use Rattle.msrp_plan.specs.Common.{[], List, Option, None, true, false, carries_its_ahead, IsCoreTurn}
-use Rattle.msrp_plan.specs.declared.rows.Row.{Row}
-use Rattle.msrp_board.specs.declared.answers.SeatPhase.TheVariants.{Admitted}
-use Rattle.msrp_board.specs.declared.books.Book.{Book}
-use Rattle.msrp_board.specs.declared.books.Entry.{Entry}
-use Rattle.msrp_board.specs.Books.{phase_in, has_acted, lock_of}
-use Rattle.msrp_board.specs.Seats.{BoardModel, SeatModel, IsCoreSeat}
-use Rattle.msrp_core.specs.Machine.{MachineModel, StandsAfter}
-use Rattle.msrp_merge.specs.declared.logs.Place.{Place}
-use Rattle.msrp_merge.specs.declared.logs.Turn.{Turn}
-use Rattle.msrp_merge.specs.Merging.{size_of}
-use Rattle.msrp_merge.specs.Turns.{LogModel, IsTurnOf, is_step, rows_of}
+use Rattle.msrp_run.specs.Common.{Admitted, BoardModel, Book, Entry, IsCoreSeat, IsTurnOf, LogModel, MachineModel, Place, Row, SeatModel, StandsAfter, Turn, has_acted, is_step, lock_of, phase_in, rows_of, size_of}
 
 -- a core may have its turn on a board of its plan: the machine stands after the log, which is of
 -- its core and for the plan's ticks; the seat is the core's, in the machine's tick, hasn't acted,

@@ -1,15 +1,7 @@
 -- What a worker is given, and what it returns.
 use Rattle.std.specs.Prelude.{◌≡◌, ◌⊎◌}
 use Rattle.msrp_plan.specs.Common.{ℕ, [], length, true, carries_ahead, PlanModel, CoreRun}
-use Rattle.msrp_board.specs.declared.answers.SeatPhase.TheVariants.{Waiting, Done, Stopped}
-use Rattle.msrp_board.specs.declared.books.Book.{Book}
-use Rattle.msrp_board.specs.Books.{phase_in, lock_of}
-use Rattle.msrp_board.specs.Seats.{BoardModel, SeatModel, IsCoreSeat, empty_book}
-use Rattle.msrp_core.specs.Machine.{MachineModel, StandsAfter}
-use Rattle.msrp_merge.specs.Merging.{size_of}
-use Rattle.msrp_merge.specs.Turns.{LogModel, rows_of, Fits}
-use Rattle.msrp_plan.specs.declared.rows.Row.{Row}
-use Rattle.msrp_board.specs.Steps.{with_admission}
+use Rattle.msrp_run.specs.Common.{BoardModel, Book, Done, Fits, IsCoreSeat, LogModel, MachineModel, Row, SeatModel, StandsAfter, Stopped, Waiting, empty_book, lock_of, phase_in, rows_of, size_of, with_admission}
 use Rattle.msrp_run.specs.Turns.{CoreModel, HasTurned, core_with}
 
 -- a core before its first turn: a new machine, an empty log for the plan's ticks, and the core's

@@ -2,10 +2,8 @@
 //! does nothing; its contract is the law.
 ghost use Rattle.std.specs.Prelude.{◌≡◌};
 ghost use Rattle.msrp_plan.specs.Common.{ℕ, List, [], PlanModel};
-ghost use Rattle.msrp_board.specs.declared.books.Entry.{Entry};
-ghost use Rattle.msrp_merge.specs.Merging.{AreLogs, turns_of};
+ghost use Rattle.msrp_run.specs.Common.{AreLogs, Entry, LogModel, rows_of, turns_of};
 ghost use Rattle.msrp_merge.specs.Sorting.{merged};
-ghost use Rattle.msrp_merge.specs.Turns.{LogModel, rows_of};
 ghost use Rattle.msrp_plan.specs.declared.rows.Row.{Row as TraceRow};
 ghost use Rattle.msrp_run.specs.BrokenRuns as runs;
 ghost use Rattle.msrp_run.specs.Threads.{AreDone, IsInOrder, IsServedAs};

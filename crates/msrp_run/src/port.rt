@@ -2,7 +2,7 @@
 ghost use Rattle.std.specs.Prelude.{◌≡◌};
 ghost use Rattle.msrp_plan.specs.Common.{None, Some};
 ghost use Rattle.msrp_run.specs.Ports.{IsSeatPort, SeatPortModel, port_of};
-ghost use Rattle.msrp_board.specs.Seats.{BoardModel};
+ghost use Rattle.msrp_run.specs.Common.{BoardModel};
 
 use msrp_board::{Board, BoardSeat};
 use msrp_core::{Port, Reply};

@@ -1,10 +1,7 @@
 //! A run with a thread for each core: threads are started, cores let in, and threads joined.
 ghost use Rattle.std.specs.Prelude.{◌≡◌, ◌+◌, ◌<◌, ◌≤◌};
 ghost use Rattle.msrp_plan.specs.Common.{ℕ, [], IfOk, IfErr, IsTrue, length, true, false, vec_capacity, vec_len, carries_ahead, IsPlan};
-ghost use Rattle.msrp_board.specs.declared.books.Conductor.TheVariants.{Opened, Aborted};
-ghost use Rattle.msrp_board.specs.Boards.{IsTied, entries_at};
-ghost use Rattle.msrp_merge.specs.Merging.{AreLogs, size_of, turns_of};
-ghost use Rattle.msrp_merge.specs.Turns.{rows_of};
+ghost use Rattle.msrp_run.specs.Common.{Aborted, AreLogs, IsTied, Opened, entries_at, rows_of, size_of, turns_of};
 ghost use Rattle.msrp_run.specs.Threads.{AreDone, AllAreNew, ArePromised, HasEnded, HasRest, HasRun, HasOthers, IsCalledOff, IsRunOfBoard, AreNewParts, IsPromise, ordered};
 ghost use Rattle.msrp_run.specs.Work.{HasWorked, IsNew};
 

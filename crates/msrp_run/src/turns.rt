@@ -2,10 +2,9 @@
 ghost use Rattle.std.specs.Prelude.{◌≡◌, ◌<◌, ◌++◌, ◌∷◌};
 ghost use Rattle.msrp_plan.specs.Common.{[], List, IsCoreTurn};
 ghost use Rattle.msrp_plan.specs.declared.rows.Row.{Row as TraceRow};
-ghost use Rattle.msrp_core.specs.Machine.{StandsAfter};
+ghost use Rattle.msrp_run.specs.Common.{BoardModel, StandsAfter};
 ghost use Rattle.msrp_run.specs.Ports.{HasAsked, IsSeatPort, port_of};
 ghost use Rattle.msrp_run.specs.Turns.{HasTurned, MayTurn, core_with};
-ghost use Rattle.msrp_board.specs.Seats.{BoardModel};
 
 use crate::port::{FirstSeat, SeatPort};
 use msrp_board::{Board, BoardSeat};

@@ -4,7 +4,7 @@ ghost use Rattle.msrp_run.specs.declared.work.Progress.TheVariants.{Waits, Turne
 ghost use Rattle.msrp_run.specs.Work.{HasWorked, IsAtWork, IsNew, IsInTurn};
 ghost use Rattle.msrp_plan.specs.Common.{[], Option};
 ghost use Rattle.msrp_plan.specs.declared.rows.Row.{Row as TraceRow};
-ghost use Rattle.msrp_merge.specs.declared.logs.Place.{Place};
+ghost use Rattle.msrp_run.specs.Common.{Place};
 ghost use Rattle.msrp_run.specs.declared.work.Begun.{Begun};
 
 use crate::turns::Stage;

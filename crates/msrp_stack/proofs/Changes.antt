@@ -1,20 +1,13 @@
 -- One started job more or less, and one resource more or less that the newest holds.
 use Rattle.std.proofs.Common.{◌≡◌, ◌<◌, ◌≤◌, ◌+◌, ◌-◌, ◌||◌, ◌∷◌, ◌++◌, ◌∙◌}
 use Rattle.msrp_plan.proofs.Common.{ℕ, true, false, max, List, [], map, reverse, length, set, slice_index_or, Option, Some, None, refl, ap, sym, subst, arith, length-append, append-nil, inl, inr, flat_map, AllByRecursion, Contains, list_any, option_to_list, true≢false, cases_Bool, cases_eq, cases_lt, false_from_ne_true, get_or-append_seam, length-map, get_or-set_same, get_or-set_other, PlanModel, jobs, jobs_on, same_job, is_before, IsPlan, same_is, same_self, same_symm, before_order, irrefl, any_in}
-use Rattle.std.specs.List.{IsDistinct}
-use Rattle.msrp_plan.specs.declared.ids.JobId.{JobId}
+use Rattle.msrp_stack.proofs.Common.{CanStart, ComesFirst, Held, IsDistinct, IsDone, IsFalling, IsStack, JobId, Layers, Started, StartedJob, ceiling_at, layers_of, started_of, started_view, with_held, without_held}
 use Rattle.std.specs.Cmp.{IsEquivalence}
 use Rattle.std.proofs.lemmas.Map.Made.{length-le_from_is_member}
 use Rattle.std.proofs.Math.Seq.{set-append_seam}
 use Rattle.std.proofs.lemmas.List.{reverse-append, length-reverse}
 use Rattle.msrp_plan.proofs.Jobs.JobTests.{same_congr}
 use Rattle.msrp_stack.proofs.Tops.{before_all}
-use Rattle.msrp_stack.specs.Stack.{StartedJob, CanStart, ComesFirst, IsDone, with_held, without_held}
-use Rattle.msrp_levels.specs.Users.{ceiling_at}
-use Rattle.msrp_stack.specs.Layers.{Layers, layers_of}
-use Rattle.msrp_stack.specs.StackView.{started_view, started_of, IsFalling, IsStack}
-use Rattle.msrp_stack.specs.declared.stack.Held.{Held}
-use Rattle.msrp_stack.specs.declared.stack.Started.{Started}
 
 -- ---- the last of a list, and the first of its reverse
 -- a list that isn't empty has a last element

@@ -1,14 +1,8 @@
 -- The ceiling that rises from one held resource to the next is the core's current ceiling.
 use Rattle.std.proofs.Common.{◌≡◌, ◌<◌, ◌≤◌, ◌&&◌, ◌||◌, ◌∷◌, ◌∙◌}
 use Rattle.msrp_plan.proofs.Common.{ℕ, Bool, true, false, cond, not, max, nat_eq, List, [], map, reverse, length, refl, ap, sym, subst, arith, inl, inr, list_any, filter, flat_map, or-true, and_parts, cases_Bool, list_any-append, PlanModel, is_global, local_ceiling, top, greatest, resources, raised_with, ceiling_with, any_in, any_map, greatest_above, in_resources}
-use Rattle.std.specs.List.{fold}
+use Rattle.msrp_stack.proofs.Common.{Held, Layers, Started, ceiling_at, fold, is_held, started_view}
 use Rattle.std.proofs.lemmas.Bool.{eqb-true, eq-eqb}
-use Rattle.msrp_stack.specs.Stack.{is_held}
-use Rattle.msrp_levels.specs.Users.{ceiling_at}
-use Rattle.msrp_stack.specs.Layers.{Layers}
-use Rattle.msrp_stack.specs.StackView.{started_view}
-use Rattle.msrp_stack.specs.declared.stack.Held.{Held}
-use Rattle.msrp_stack.specs.declared.stack.Started.{Started}
 
 -- the resource is one of those held
 abbrev pub is_layer : List Held → ℕ → Bool

@@ -1,3 +1,4 @@
+pub mod Common
 pub mod Layers
 pub mod Tops
 pub mod Changes

@@ -1,9 +1,7 @@
 -- The newest started job is the one that comes first.
 use Rattle.std.proofs.Common.{◌≡◌, ◌&&◌, ◌||◌, ◌∷◌, ◌∙◌}
 use Rattle.msrp_plan.proofs.Common.{ℕ, Bool, true, false, not, List, [], Option, Some, None, refl, ap, sym, subst, inl, inr, filter, AllByRecursion, Contains, true≢false, cases_Bool, true_from_ne_false, PlanModel, jobs_on, same_job, is_before, least, first_unfinished, before_order, tied, same_is, same_self, least_passes, least_some, least_of_those, irrefl}
-use Rattle.msrp_plan.specs.declared.ids.JobId.{JobId}
-use Rattle.msrp_stack.specs.Stack.{StartedJob, is_among, newest, ComesFirst}
-use Rattle.msrp_stack.specs.StackView.{IsFalling}
+use Rattle.msrp_stack.proofs.Common.{ComesFirst, IsFalling, JobId, StartedJob, is_among, newest}
 
 -- who comes before one that comes before a third comes before the third
 before_third : (plan : PlanModel) (i j k : JobId) → is_before plan i j ≡ true → is_before plan j k ≡ true → is_before plan i k ≡ true

@@ -4,6 +4,7 @@ use Rattle.msrp_plan.specs.Common.{ℕ, List, [], Bool, false, nat_eq, Option, S
 use Rattle.msrp_plan.specs.declared.ids.JobId.{JobId}
 use Rattle.msrp_plan.specs.Choice.{first_unfinished}
 use Rattle.msrp_plan.specs.Ceiling.{ceiling_with}
+use Rattle.msrp_plan.specs.FifoLock.{without_first}
 
 -- a started, unfinished job, and its resources, the innermost first, global ones once requested
 pub record StartedJob : Type 0 where
@@ -67,10 +68,6 @@ IsInnermost (s ∷ below) g = (rest : List ℕ) × (s.held ≡ g ∷ rest)
 -- the newest job holds something
 abbrev pub SomeHeld : List StartedJob → Type 0
 SomeHeld started = (g : ℕ) × IsInnermost started g
-
-abbrev pub without_first : List ℕ → List ℕ
-without_first [] = []
-without_first (g ∷ held) = held
 
 -- the newest job without its innermost resource
 abbrev pub without_held : List StartedJob → List StartedJob

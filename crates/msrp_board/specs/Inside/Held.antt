@@ -1,27 +1,13 @@
 -- The relation of what a seat stores to what it knows, and to what callers see.
 use Rattle.msrp_plan.specs.Common.{ℕ, List, [], map, take, slice_index, Some, None, reverse, Bool, true, false, slice_index_or, ⊤, filter_map, most_resources}
-use Rattle.msrp_plan.specs.declared.units.Phase.{Phase}
+use Rattle.msrp_board.specs.Common.{BoardSize, Book, Claim, Conductor, Holds, Me, Nothing, Option, Page, Phase, TableId, Unopened, View, Waits, get_elem?, option_map, some, unwrap_or}
 use Rattle.msrp_plan.specs.declared.units.Phase.TheVariants.{Free, Queued, Holding}
 use Rattle.std.specs.Prelude.{◌≡◌, ◌<◌, ◌≤◌, ◌==◌, ◌+◌, ◌*◌, if◌then◌else◌, ltb, leb}
-use Rattle.std.specs.Option.{option_map, unwrap_or}
-use Rattle.std.specs.declared.option.Option.{Option}
-use mathlib.Core.Option.{some}
-use lib.ListN.{get_elem?}
-use Rattle.atomic_table.specs.Table.{Me}
-use Rattle.atomic_table.specs.Seated.{TableId}
 use Rattle.msrp_board.specs.declared.answers.Look.{Look}
 use Rattle.msrp_board.specs.declared.answers.Look.TheVariants.{Wait, Go, Stopped}
-use Rattle.msrp_board.specs.declared.books.Book.{Book}
-use Rattle.msrp_board.specs.declared.books.BoardSize.{BoardSize}
-use Rattle.msrp_board.specs.declared.books.Conductor.{Conductor}
-use Rattle.msrp_board.specs.declared.books.Conductor.TheVariants.{Unopened}
-use Rattle.msrp_board.specs.declared.pages.Page.{Page}
-use Rattle.msrp_board.specs.declared.pages.View.{View}
 use Rattle.msrp_board.specs.declared.held.CoreState.{CoreState}
 use Rattle.crossbeam_utils.specs.Padded.{padded_value, padded_with_value}
 use Rattle.msrp_board.specs.declared.states.States.{States, End, Of'}
-use Rattle.msrp_board.specs.declared.held.Claim.{Claim}
-use Rattle.msrp_board.specs.declared.held.Claim.TheVariants.{Nothing, Waits, Holds}
 use Rattle.msrp_board.specs.Books.{IsSize, lock_of, has_acted}
 use Rattle.msrp_board.specs.Seats.{BoardModel, SeatModel}
 use Rattle.msrp_board.specs.Boards.{WholeBoard, IsTied}

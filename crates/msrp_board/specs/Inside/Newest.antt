@@ -1,39 +1,23 @@
 -- A board's entries, the newest first, so that adding one is one step; callers see them oldest
 -- first. A definition that ends in `Newest` is that of `Books` or `History`, of the reversed list.
-use Rattle.std.specs.Prelude.{◌≡◌, ◌+◌, ◌/◌, ◌<◌, ◌≤◌, ◌∷◌, ◌⊎◌}
-use Rattle.msrp_plan.specs.Common.{ℕ, zero, suc, List, [], Bool, true, false, ⊤, FifoLock, Answers}
-use Rattle.msrp_plan.specs.declared.units.Call.{Call}
-use Rattle.msrp_plan.specs.declared.units.Call.TheVariants.{Ask, Poll, Leave}
+use Rattle.std.specs.Prelude.{◌≡◌, ◌+◌, ◌/◌, ◌<◌, ◌≤◌, ◌∷◌, ◌⊎◌, ◌&&◌, if◌then◌else◌}
+use Rattle.msrp_plan.specs.Common.{ℕ, zero, suc, List, [], Bool, true, false, ⊤, AllByRecursion, FifoLock, Answers}
+use Rattle.msrp_board.specs.Common.{Ask, Call, Claim, Entry, Holds, Leave, Nothing, Poll, Waits}
 use Rattle.std.specs.Bool.{OnTrue}
 use Rattle.msrp_plan.specs.FifoLock.{queue_after, granted_after}
-use Rattle.msrp_board.specs.declared.books.Entry.{Entry}
-use Rattle.msrp_board.specs.declared.held.Claim.{Claim}
-use Rattle.msrp_board.specs.declared.held.Claim.TheVariants.{Nothing, Waits, Holds}
-use Rattle.msrp_board.specs.History.{Event}
+use Rattle.msrp_board.specs.History.{Event, is_poll, is_release, is_request}
 
 -- ---- the history of a resource
-
--- one more request, if the call is one
-abbrev pub asks_after : ℕ → Call → ℕ
-asks_after n (Ask a) = suc n
-asks_after n (Poll p) = n
-asks_after n Leave = n
-
--- one more release, if the call is one
-abbrev pub leaves_after : ℕ → Call → ℕ
-leaves_after n (Ask a) = n
-leaves_after n (Poll p) = n
-leaves_after n Leave = suc n
 
 -- the number of requests
 abbrev pub asks : List Event → ℕ
 asks [] = 0
-asks (r ∷ h) = asks_after (asks h) r.1.call
+asks (r ∷ h) = if is_request r.1.call then suc (asks h) else asks h
 
 -- the number of releases
 abbrev pub leaves : List Event → ℕ
 leaves [] = 0
-leaves (r ∷ h) = leaves_after (leaves h) r.1.call
+leaves (r ∷ h) = if is_release r.1.call then suc (leaves h) else leaves h
 
 -- the cores in the queue after these events
 abbrev pub queue : List Event → List ℕ
@@ -61,26 +45,17 @@ PlacedNewest (r ∷ h) = PlacedNewest h × (r.1.place ≡ asks h + leaves h)
 
 -- no event is of a later tick
 abbrev pub NoneLater : ℕ → List Event → Type 0
-NoneLater t [] = ⊤
-NoneLater t (r ∷ h) = (r.1.tick ≤ t) × NoneLater t h
+NoneLater t h = AllByRecursion (λ r. r.1.tick ≤ t) h
 
 -- ticks never fall
 abbrev pub RisingNewest : List Event → Type 0
 RisingNewest [] = ⊤
 RisingNewest (r ∷ h) = RisingNewest h × NoneLater r.1.tick h
 
--- both are polls
-abbrev pub are_polls : Call → Call → Bool
-are_polls (Ask a) k = false
-are_polls (Poll p) (Ask a) = false
-are_polls (Poll p) (Poll q) = true
-are_polls (Poll p) Leave = false
-are_polls Leave k = false
-
 -- if r and the event before it are polls, r is of a later tick, or of the same and of no lower core
 abbrev pub IsPollAfter : Event → List Event → Type 0
 IsPollAfter r [] = ⊤
-IsPollAfter r (x ∷ h) = OnTrue (are_polls r.1.call x.1.call) ((x.1.tick < r.1.tick) ⊎ ((x.1.tick ≡ r.1.tick) × (x.0 ≤ r.0)))
+IsPollAfter r (x ∷ h) = OnTrue (is_poll r.1.call && is_poll x.1.call) ((x.1.tick < r.1.tick) ⊎ ((x.1.tick ≡ r.1.tick) × (x.0 ≤ r.0)))
 
 -- adjacent polls are by tick, then core
 abbrev pub PollsNewest : List Event → Type 0

@@ -1,19 +1,7 @@
 -- The rule of a board's words: what holds of the words and all books, and what each step promises.
 use Rattle.msrp_plan.specs.Common.{ℕ, suc, List, [], length, map, Bool, true, false, Some, None, replicate, slice_index, list_any, AllByRecursion}
-use Rattle.msrp_plan.specs.declared.units.Call.{Call}
-use Rattle.msrp_plan.specs.declared.units.Call.TheVariants.{Ask, Poll, Leave}
+use Rattle.msrp_board.specs.Common.{Aborted, Ask, BoardSize, Call, Claim, Conductor, Entry, Leave, Me, Opened, Page, Poll, State, Step, Unopened, View, get_elem?, option_map, some}
 use Rattle.std.specs.Prelude.{◌≡◌, ◌==◌, ◌+◌, ◌*◌, ◌-◌, ◌^◌, ◌<◌, ◌≤◌, ◌∷◌, ltb, leb}
-use Rattle.std.specs.Option.{option_map}
-use mathlib.Core.Option.{some}
-use lib.ListN.{get_elem?}
-use Rattle.atomic_table.specs.Table.{State, Me, Step}
-use Rattle.msrp_board.specs.declared.books.Entry.{Entry}
-use Rattle.msrp_board.specs.declared.books.Conductor.{Conductor}
-use Rattle.msrp_board.specs.declared.books.Conductor.TheVariants.{Unopened, Opened, Aborted}
-use Rattle.msrp_board.specs.declared.books.BoardSize.{BoardSize}
-use Rattle.msrp_board.specs.declared.held.Claim.{Claim}
-use Rattle.msrp_board.specs.declared.pages.Page.{Page}
-use Rattle.msrp_board.specs.declared.pages.View.{View}
 use Rattle.msrp_board.specs.declared.words.TicketWord.{TicketWord}
 use Rattle.msrp_board.specs.Boards.{opening_count, abort_count}
 use Rattle.msrp_board.specs.Words.{high, low, half_word}
@@ -138,14 +126,18 @@ pub record HasOnly (v : View) (c : ℕ) (b : Page) : Type 0 where
 abbrev pub page_has_acted : Page → Bool
 page_has_acted b = list_any (λ e. e.tick == b.tick) b.newest
 
--- a core's seat that may act, with this claim
-pub record ViewMayAct (v : View) (l : Claim) : Type 0 where
+-- a core's seat that is let into its tick
+pub record ViewIsAdmitted (v : View) : Type 0 where
   pub core : ℕ
   pub page : Page
   pub has : HasOnly v core page
-  pub claims : claim_of page.newest ≡ l
   pub admitted : page.admitted ≡ true
-  pub quiet : page_has_acted page ≡ false
+
+-- a core's seat that may act, with this claim
+pub record ViewMayAct (v : View) (l : Claim) : Type 0 where
+  pub at : ViewIsAdmitted v
+  pub claims : claim_of at.page.newest ≡ l
+  pub quiet : page_has_acted at.page ≡ false
 
 -- a core's seat that waits for its tick
 pub record ViewWaits (z : BoardSize) (v : View) : Type 0 where
@@ -154,13 +146,6 @@ pub record ViewWaits (z : BoardSize) (v : View) : Type 0 where
   pub has : HasOnly v core page
   pub out : page.admitted ≡ false
   pub left : page.tick < z.ticks
-
--- a core's seat that is let into its tick
-pub record ViewIsAdmitted (v : View) : Type 0 where
-  pub core : ℕ
-  pub page : Page
-  pub has : HasOnly v core page
-  pub admitted : page.admitted ≡ true
 
 -- ---- what each step makes of a page and of a view, and promises
 
@@ -201,18 +186,6 @@ pub record Tells (f : ℕ → ℕ → Page → Page) (st : Step (Unit {0})) (me 
   pub small : high n + low n < 2 ^ 32
   pub behind : ViewIsBehind me.0 st.word (high n + low n)
 
--- what a request promises
-abbrev pub TellsAsk : Step (Unit {0}) → Me (Unit {0}) View → ℕ → Me (Unit {0}) View → Type 0
-TellsAsk = Tells page_with_ask
-
--- what a poll promises
-abbrev pub TellsPoll : Step (Unit {0}) → Me (Unit {0}) View → ℕ → Me (Unit {0}) View → Type 0
-TellsPoll = Tells page_with_poll
-
--- what a release promises
-abbrev pub TellsLeave : Step (Unit {0}) → Me (Unit {0}) View → ℕ → Me (Unit {0}) View → Type 0
-TellsLeave = Tells page_with_leave
-
 -- what holds of each ticket word
 pub record IsTicket (word : TicketWord) : Type 0 where
   pub order : word.serving ≤ word.next
@@ -242,10 +215,6 @@ spent = record { pages = []; conductor = None }
 -- the core has arrived from its tick
 abbrev pub page_with_arrival : Page → Page
 page_with_arrival b = record { newest = b.newest; tick = suc b.tick; admitted = false; stopped = b.stopped }
-
--- what an arrival promises
-abbrev pub TellsArrival : Step (Unit {0}) → Me (Unit {0}) View → ℕ → Me (Unit {0}) View → Type 0
-TellsArrival st me n now = now ≡ (with_pages page_with_arrival me.0, me.1)
 
 -- what a look makes of a book: the high half isn't 0, or the low half is high enough, or neither
 abbrev pub page_after_look_if : Bool → Bool → Page → Page
@@ -281,10 +250,6 @@ TellsRule z st me n now = IsUnderRule z me now
 abbrev pub view_with_conductor : Conductor → View → View
 view_with_conductor o v = record { pages = v.pages; conductor = Some o }
 
--- what the opening promises
-abbrev pub TellsOpening : Step (Unit {0}) → Me (Unit {0}) View → ℕ → Me (Unit {0}) View → Type 0
-TellsOpening st me n now = now ≡ (view_with_conductor Opened me.0, me.1)
-
--- what an abort promises
-abbrev pub TellsAbort : Step (Unit {0}) → Me (Unit {0}) View → ℕ → Me (Unit {0}) View → Type 0
-TellsAbort st me n now = now ≡ (view_with_conductor Aborted me.0, me.1)
+-- what a step promises that changes its seat's view by f: an arrival, the opening, the abort
+abbrev pub TellsChange : (View → View) → Step (Unit {0}) → Me (Unit {0}) View → ℕ → Me (Unit {0}) View → Type 0
+TellsChange f st me n now = now ≡ (f me.0, me.1)

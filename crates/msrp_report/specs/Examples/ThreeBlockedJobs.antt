@@ -1,8 +1,7 @@
 -- Jobs of one task that are blocked for two rows, for three and for none.
 use Rattle.std.specs.Prelude.{◌∷◌, ◌++◌}
 use Rattle.msrp_plan.specs.Common.{ℕ, List, [], codes, PlanModel}
-use Rattle.msrp_plan.specs.declared.ids.JobId.{JobId}
-use Rattle.msrp_plan.specs.declared.rows.Row.{Row}
+use Rattle.msrp_report.specs.Common.{JobId, Row}
 use Rattle.msrp_plan.specs.Examples.Notation.{task, listed, section, job, runs, lock, unlock}
 
 abbrev pub plan : PlanModel

@@ -1,8 +1,7 @@
 -- A job that waits three times: it spins once, twice and once.
 use Rattle.std.specs.Prelude.{◌∷◌, ◌++◌}
 use Rattle.msrp_plan.specs.Common.{List, [], codes, PlanModel}
-use Rattle.msrp_plan.specs.declared.ids.JobId.{JobId}
-use Rattle.msrp_plan.specs.declared.rows.Row.{Row}
+use Rattle.msrp_report.specs.Common.{JobId, Row}
 use Rattle.msrp_plan.specs.Examples.Notation.{task, section, job, idle, run, take, queue, spin, grant, release}
 
 abbrev pub plan : PlanModel

@@ -1,8 +1,7 @@
 -- Two jobs of one task that spin once each.
 use Rattle.std.specs.Prelude.{◌∷◌}
 use Rattle.msrp_plan.specs.Common.{ℕ, List, [], codes, PlanModel}
-use Rattle.msrp_plan.specs.declared.ids.JobId.{JobId}
-use Rattle.msrp_plan.specs.declared.rows.Row.{Row}
+use Rattle.msrp_report.specs.Common.{JobId, Row}
 use Rattle.msrp_plan.specs.Examples.Notation.{task, section, job, idle, run, take, queue, spin, grant, release}
 
 abbrev pub plan : PlanModel

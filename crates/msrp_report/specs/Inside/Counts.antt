@@ -1,9 +1,7 @@
 -- One job's counts, row by row.
 use Rattle.msrp_plan.specs.Common.{ℕ, List, Option, Some, None, not, fold, max, unwrap_or, ⊤, is_row_of, is_waiting, is_spin}
-use Rattle.msrp_plan.specs.declared.ids.JobId.{JobId}
-use Rattle.msrp_plan.specs.declared.rows.Kind.{Kind}
+use Rattle.msrp_report.specs.Common.{JobId, Kind, Row}
 use Rattle.msrp_plan.specs.declared.rows.Kind.TheVariants.{Queue, Spin, Grant}
-use Rattle.msrp_plan.specs.declared.rows.Row.{Row}
 use Rattle.std.specs.Prelude.{◌+◌, ◌^◌, ◌<◌, ◌≤◌, if◌then◌else◌, filter}
 use Rattle.msrp_report.specs.declared.counts.JobCount.{JobCount}
 

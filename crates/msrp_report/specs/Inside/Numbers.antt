@@ -1,9 +1,7 @@
 -- The numbers of one job.
 use Rattle.msrp_plan.specs.Common.{List, PlanModel, is_finished, blocked}
-use Rattle.msrp_plan.specs.declared.ids.JobId.{JobId}
-use Rattle.msrp_plan.specs.declared.rows.Row.{Row}
+use Rattle.msrp_report.specs.Common.{JobId, JobNumbers, Row}
 use Rattle.msrp_report.specs.Lines.{is_late, response, spins, longest_wait}
-use Rattle.msrp_report.specs.declared.numbers.JobNumbers.{JobNumbers}
 
 -- the numbers of a job
 abbrev pub numbers_of : PlanModel → List Row → JobId → JobNumbers

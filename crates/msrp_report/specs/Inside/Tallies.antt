@@ -1,9 +1,7 @@
 -- The counts of each job while rows arrive, and what they say of the rows so far.
 use Rattle.std.specs.Prelude.{◌∷◌, ◌++◌, ◌&&◌, ◌==◌, ◌≡◌, ◌<◌, ◌≤◌, ◌+◌, ◌/◌, if◌then◌else◌}
 use Rattle.msrp_plan.specs.Common.{ℕ, List, [], Bool, true, false, not, nat_le, nat_lt, Option, Some, None, IsSome, map, count_by, length, slice_get, vec_capacity, All, AllByRecursion, Contains, list_any, range_with_len, IsNonDecreasingBy, IsPermutation, PlanModel, task_at, release, release_tick, is_before, jobs, job_at, jobs_of, jobs_on, same_job, is_started, is_finished, blocked, first_later, IsRunStart, IsPlan}
-use Rattle.msrp_plan.specs.declared.ids.JobId.{JobId}
-use Rattle.msrp_plan.specs.declared.rows.Kind.{Kind}
-use Rattle.msrp_plan.specs.declared.rows.Row.{Row}
+use Rattle.msrp_report.specs.Common.{JobId, Kind, Row}
 use Rattle.std.specs.List.{IsDistinct}
 use Rattle.msrp_plan.specs.Blocking.{ComesBefore, ComesAfter}
 use Rattle.msrp_report.specs.Inside.Counts.{count_of}
@@ -201,10 +199,6 @@ pub record CountsAs (plan : PlanModel) (j : JobId) (at : ℕ) (k : Kind) (r : Ro
 
 abbrev pub GoesOn : PlanModel → Row → Tallies → Type 0
 GoesOn plan r t = (rows : List Row) × HasTallied plan rows t × IsRunStart plan (rows ++ r ∷ [])
-
--- a row of that tick follows
-abbrev pub Reaches : PlanModel → ℕ → Tallies → Type 0
-Reaches plan at t = (r : Row) × GoesOn plan r t × (r.tick ≡ at)
 
 -- the tallies include all rows
 abbrev pub ToldAll : PlanModel → Tallies → Type 0

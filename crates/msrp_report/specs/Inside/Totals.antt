@@ -1,8 +1,7 @@
 -- The line of a task, job by job.
 use Rattle.std.specs.Prelude.{◌+◌, ◌^◌, ◌<◌, if◌then◌else◌}
 use Rattle.msrp_plan.specs.Common.{max}
-use Rattle.msrp_report.specs.declared.lines.Line.{Line}
-use Rattle.msrp_report.specs.declared.numbers.JobNumbers.{JobNumbers}
+use Rattle.msrp_report.specs.Common.{JobNumbers, Line}
 
 -- with one more job
 abbrev pub line_with : JobNumbers → Line → Line

@@ -1,7 +1,6 @@
 use Rattle.std.proofs.Common.{◌∙◌}
 use Rattle.msrp_plan.proofs.Common.{arith, sym, subst, none}
-use Rattle.atomic_table.specs.Table.{Allows, step}
-use Rattle.msrp_board.specs.Inside.Rule.{Ruled, TellsLook}
+use Rattle.msrp_board.proofs.Common.{Allows, Ruled, TellsLook, step}
 use Rattle.msrp_board.proofs.BarrierSteps.{look_allowed}
 use Rattle.msrp_board.proofs.steps.look_named.Goals as goal
 

@@ -1,7 +1,6 @@
 use Rattle.std.proofs.Common.{◌≡◌, ◌∙◌, ◌∷◌, ◌++◌}
 use Rattle.msrp_plan.proofs.Common.{is_some, ap, sym, List, [], AllByRecursion, true≢false}
-use Rattle.msrp_merge.specs.declared.logs.Turn.{Turn}
-use Rattle.msrp_merge.specs.Turns.{has_place, is_step}
+use Rattle.msrp_merge.proofs.Common.{Turn, has_place, is_step}
 use Rattle.msrp_merge.proofs.laws.steps_have_places.Goals as goal
 
 -- what holds of all holds of the one in the middle

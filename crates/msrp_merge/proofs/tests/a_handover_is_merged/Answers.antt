@@ -1,6 +1,6 @@
 use Rattle.std.proofs.Common.{◌∙◌, ◌∷◌}
 use Rattle.msrp_plan.proofs.Common.{length, ap, []}
-use Rattle.msrp_merge.specs.Merging.{turns_of}
+use Rattle.msrp_merge.proofs.Common.{turns_of}
 use Rattle.msrp_merge.proofs.Coming.{merged_length}
 use Rattle.msrp_merge.proofs.tests.a_handover_is_merged.Goals as goal
 

@@ -1,6 +1,5 @@
 use Rattle.msrp_plan.proofs.Common.{rules}
-use Rattle.std.proofs.lemmas.List.Sorted.{IsNonDecreasingBy-from_sort, answers_always}
-use Rattle.msrp_ready.specs.declared.keyed.Entry.{Entry}
+use Rattle.msrp_ready.proofs.Common.{Entry, IsNonDecreasingBy-from_sort, answers_always}
 use Rattle.msrp_ready.proofs.calendar.calendar_of.Goals as goal
 
 pub returns-clause-sorted : goal.returns-clause-sorted

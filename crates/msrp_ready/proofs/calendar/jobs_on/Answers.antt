@@ -1,6 +1,6 @@
 use Rattle.std.proofs.Common.{◌==◌, ◌∙◌}
 use Rattle.msrp_plan.proofs.Common.{sym, ap}
-use Rattle.msrp_ready.specs.Keyed.{entry}
+use Rattle.msrp_ready.proofs.Common.{entry}
 use Rattle.msrp_ready.proofs.Gathering.{gather_on, gather_off}
 use Rattle.msrp_ready.proofs.calendar.jobs_on.Goals as goal
 use Rattle.msrp_ready.proofs.calendar.jobs_on.Goals.{then-eq+in_ok-push_jobs, else-eq}

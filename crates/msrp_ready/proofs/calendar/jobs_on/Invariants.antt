@@ -1,6 +1,6 @@
 use Rattle.std.proofs.Common.{◌≡◌}
 use Rattle.msrp_plan.proofs.Common.{map, range_with_len, jobs_among}
-use Rattle.msrp_ready.specs.Keyed.{entry}
+use Rattle.msrp_ready.proofs.Common.{entry}
 use Rattle.msrp_ready.proofs.calendar.jobs_on.Given as goal
 
 abbrev pub invariant-loop-t : goal.invariant-loop-t

@@ -1,7 +1,6 @@
 use Rattle.std.proofs.Common.{◌++◌, ◌∙◌}
 use Rattle.msrp_plan.proofs.Common.{ap, arith, map, range_with_len}
-use Rattle.msrp_plan.proofs.Jobs.JobLists.{job_at}
-use Rattle.msrp_ready.specs.Keyed.{entry}
+use Rattle.msrp_ready.proofs.Common.{entry, job_at}
 use Rattle.msrp_ready.proofs.Gathering.{few_of_task, gather_more, gather_all}
 use Rattle.msrp_ready.proofs.calendar.push_jobs.Goals as goal
 

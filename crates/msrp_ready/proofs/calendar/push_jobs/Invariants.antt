@@ -1,7 +1,6 @@
 use Rattle.std.proofs.Common.{◌≡◌, ◌++◌}
 use Rattle.msrp_plan.proofs.Common.{map, range_with_len}
-use Rattle.msrp_plan.proofs.Jobs.JobLists.{job_at}
-use Rattle.msrp_ready.specs.Keyed.{entry}
+use Rattle.msrp_ready.proofs.Common.{entry, job_at}
 use Rattle.msrp_ready.proofs.calendar.push_jobs.Given as goal
 
 abbrev pub invariant-loop-k : goal.invariant-loop-k

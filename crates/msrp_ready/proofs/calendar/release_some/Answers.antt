@@ -1,9 +1,6 @@
 use Rattle.msrp_plan.proofs.Common.{[], length, take, drop, sym, ap, subst, inl, inr, arith, append_assoc, cases_lt, IsPermutation, take_more, get_or-map, length_permutation}
 use Rattle.std.proofs.Common.{◌≡◌, ◌+◌, ◌-◌, ◌∷◌, ◌++◌, ◌<◌, ◌∙◌, take_all}
-use Rattle.std.proofs.lemmas.List.Elements.{All-take, All-drop}
-use Rattle.std.proofs.lemmas.List.Sorted.{IsPermutation-push_more}
-use Rattle.msrp_ready.specs.Keyed.{entry_key, entry_keys}
-use Rattle.msrp_ready.specs.declared.keyed.Entry.{Entry}
+use Rattle.msrp_ready.proofs.Common.{All-drop, All-take, Entry, IsPermutation-push_more, entry_key, entry_keys}
 use Rattle.msrp_ready.proofs.Entries.{no_entry, keyed_length}
 use Rattle.msrp_ready.proofs.Between.{between_slice}
 use Rattle.msrp_ready.proofs.Walks.{few_of_most}

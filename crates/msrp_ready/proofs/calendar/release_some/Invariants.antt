@@ -1,6 +1,6 @@
 use Rattle.std.proofs.Common.{◌≡◌, ◌+◌, ◌*◌, ◌≤◌, ◌++◌}
 use Rattle.msrp_plan.proofs.Common.{length, take, IsPermutation}
-use Rattle.msrp_ready.specs.Keyed.{entry_keys}
+use Rattle.msrp_ready.proofs.Common.{entry_keys}
 use Rattle.msrp_ready.proofs.calendar.release_some.Given as goal
 
 abbrev pub invariant-loop-entry : goal.invariant-loop-entry

@@ -1,6 +1,6 @@
 use Rattle.std.proofs.Common.{◌≡◌, ◌+◌, ◌≤◌, ◌++◌, ◌∷◌, ◌∙◌}
 use Rattle.msrp_plan.proofs.Common.{[], take, drop, get_or, ap, sym, subst, arith, All, take_more, drop-append-le, length-take-le, All-push}
-use Rattle.msrp_ready.specs.declared.keyed.Entry.{Entry}
+use Rattle.msrp_ready.proofs.Common.{Entry}
 use Rattle.msrp_ready.proofs.Entries.{no_entry}
 use Rattle.msrp_ready.proofs.calendar.released_to.Goals as goal
 

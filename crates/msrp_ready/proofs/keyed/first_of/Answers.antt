@@ -1,6 +1,6 @@
 use Rattle.std.proofs.Common.{◌≡◌, ◌+◌, ◌++◌, ◌∷◌, ◌∙◌}
 use Rattle.msrp_plan.proofs.Common.{[], Some, take, get_or, append_assoc, append-nil, ap, sym, subst, arith, option_to_list, take_more, get_or-map}
-use Rattle.msrp_ready.specs.Keyed.{earlier_of, entry_key, entry_keys}
+use Rattle.msrp_ready.proofs.Common.{earlier_of, entry_key, entry_keys}
 use Rattle.msrp_ready.proofs.Entries.{no_entry, keyed_length}
 use Rattle.msrp_ready.proofs.Ahead.{IsFirstOf, first_alone, first_more}
 use Rattle.msrp_ready.proofs.keyed.first_of.Goals as goal

@@ -1,6 +1,6 @@
 use Rattle.std.proofs.Common.{◌++◌}
 use Rattle.msrp_plan.proofs.Common.{take, option_to_list}
-use Rattle.msrp_ready.specs.Keyed.{entry_keys}
+use Rattle.msrp_ready.proofs.Common.{entry_keys}
 use Rattle.msrp_ready.proofs.Ahead.{IsFirstOf}
 use Rattle.msrp_ready.proofs.keyed.first_of.Given as goal
 

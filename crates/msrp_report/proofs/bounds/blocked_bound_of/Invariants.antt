@@ -1,6 +1,6 @@
 use Rattle.std.proofs.Common.{◌≡◌, ◌==◌, ◌&&◌}
 use Rattle.msrp_plan.proofs.Common.{map, nat_lt, take, filter, task_at, greatest}
-use Rattle.msrp_plan.specs.Bounds.{out}
+use Rattle.msrp_report.proofs.Common.{out}
 use Rattle.msrp_report.proofs.bounds.blocked_bound_of.Given as goal
 
 abbrev pub invariant-loop-other : goal.invariant-loop-other

@@ -1,6 +1,6 @@
 use Rattle.std.proofs.Common.{◌+◌, ◌++◌, ◌∷◌, ◌∙◌}
 use Rattle.msrp_plan.proofs.Common.{[], take, sym, subst, IsRun}
-use Rattle.msrp_report.specs.Reports.{HasCounted}
+use Rattle.msrp_report.proofs.Common.{HasCounted}
 use Rattle.msrp_audit.proofs.Scanning.{one_more}
 use Rattle.msrp_report.proofs.Reporting.{part_good}
 use Rattle.msrp_report.proofs.judging.count_all.Goals as goal

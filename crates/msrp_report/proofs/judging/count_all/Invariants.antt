@@ -1,6 +1,6 @@
 use Rattle.std.proofs.Common.{◌≡◌}
 use Rattle.msrp_plan.proofs.Common.{take}
-use Rattle.msrp_report.specs.Reports.{HasCounted}
+use Rattle.msrp_report.proofs.Common.{HasCounted}
 use Rattle.msrp_report.proofs.judging.count_all.Given as goal
 
 abbrev pub invariant-loop-row : goal.invariant-loop-row

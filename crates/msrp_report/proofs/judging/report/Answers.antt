@@ -1,8 +1,7 @@
 use Rattle.std.proofs.Common.{◌≡◌, ◌∙◌}
 use Rattle.msrp_plan.proofs.Common.{Ok, Err, ap, sym, subst, IsRun, verdict, good_is_run}
 use Rattle.msrp_audit.specs.Audits.{answer_of}
-use Rattle.msrp_report.specs.Lines.{lines_of}
-use Rattle.msrp_report.specs.Reports.{HasCounted}
+use Rattle.msrp_report.proofs.Common.{HasCounted, lines_of}
 use Rattle.msrp_audit.proofs.Judging.{fault_told, good_told}
 use Rattle.msrp_report.proofs.judging.report.Goals as goal
 

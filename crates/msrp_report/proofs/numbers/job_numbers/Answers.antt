@@ -1,9 +1,7 @@
 use Rattle.std.proofs.Common.{◌≡◌, ◌+◌, ◌-◌, ◌==◌, ◌∙◌}
 use Rattle.msrp_plan.proofs.Common.{cond, nat_lt, nat_le, ap, arith, key, release, done, is_finished}
 use Rattle.msrp_plan.specs.declared.ids.JobKey.{JobKey}
-use Rattle.msrp_report.specs.Lines.{last_tick}
-use Rattle.msrp_report.specs.Inside.Numbers.{numbers_of}
-use Rattle.msrp_report.specs.declared.counts.JobCount.{JobCount}
+use Rattle.msrp_report.proofs.Common.{JobCount, last_tick, numbers_of}
 use Rattle.msrp_report.proofs.JobCounts.{done_is, last_is, spins_is, longest_is}
 use Rattle.msrp_report.proofs.JobTallies.{blocked_few, job_known, last_few, same_numbers, spins_few}
 use Rattle.msrp_report.proofs.numbers.job_numbers.Goals as goal

@@ -1,10 +1,7 @@
 use Rattle.std.proofs.Common.{◌<◌, ◌∙◌}
 use Rattle.msrp_plan.proofs.Common.{sym, ap, arith, job_at}
-use Rattle.msrp_report.specs.Inside.Numbers.{numbers_of}
-use Rattle.msrp_report.specs.Inside.Totals.{line_with}
-use Rattle.msrp_report.specs.declared.lines.Line.{Line}
+use Rattle.msrp_report.proofs.Common.{Line, job_in, line_with, numbers_of}
 use Rattle.msrp_report.proofs.LineJobs.{jobs_few, over_more}
-use Rattle.msrp_levels.proofs.PlanJobs.{job_in}
 use Rattle.msrp_report.proofs.totals.task_line.Goals as goal
 use Rattle.msrp_plan.proofs.Tests.{one_at_most}
 

@@ -1,8 +1,7 @@
 use Rattle.std.proofs.Common.{◌≡◌, ◌≤◌, ◌*◌}
 use Rattle.msrp_plan.proofs.Common.{List, map, range_with_len, job_at}
 use Rattle.msrp_plan.specs.declared.rows.Row.{Row as TraceRow}
-use Rattle.msrp_report.specs.Inside.Tallies.{HasTallied}
-use Rattle.msrp_report.specs.Lines.{line_over}
+use Rattle.msrp_report.proofs.Common.{HasTallied, line_over}
 use Rattle.msrp_report.proofs.totals.task_line.Given as goal
 
 abbrev pub invariant-loop-k : goal.invariant-loop-k

@@ -1,6 +1,5 @@
 use Rattle.msrp_plan.proofs.Common.{refl, good_is_run}
-use Rattle.std.specs.Fmt.{digits}
-use Rattle.msrp_report.specs.ReportText.{report_text}
+use Rattle.msrp_report.proofs.Common.{digits, report_text}
 use Rattle.msrp_report.proofs.worked.three_waits.Goals as goal
 
 pub returns-clause-run : goal.returns-clause-run

@@ -2,7 +2,7 @@ use Rattle.std.proofs.Common.{◌≡◌, ◌+◌, ◌<◌, ◌++◌, ◌∙◌}
 use Rattle.msrp_plan.proofs.Common.{ℕ, List, codes, length, refl, ap, sym, subst, append_assoc, arith, slice_index_or, get_or_from_slice_get, slice_get_read, Wrote, flat_more, wrote-more}
 use Rattle.msrp_text.specs.PlanText.{record_text}
 use Rattle.msrp_text.proofs.Written.{wrote-as}
-use Rattle.msrp_report.specs.ReportText.{line_record, lines_text, no_line, report_text}
+use Rattle.msrp_report.proofs.Common.{line_record, lines_text, no_line, report_text}
 use Rattle.msrp_report.proofs.writing.write_report.Goals as goal
 
 pub loop-task-preserved : goal.loop-task-preserved

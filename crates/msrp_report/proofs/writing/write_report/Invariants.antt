@@ -1,6 +1,6 @@
 use Rattle.std.proofs.Common.{◌++◌}
 use Rattle.msrp_plan.proofs.Common.{codes, Wrote}
-use Rattle.msrp_report.specs.ReportText.{lines_text}
+use Rattle.msrp_report.proofs.Common.{lines_text}
 use Rattle.msrp_report.proofs.writing.write_report.Given as goal
 
 abbrev pub invariant-loop-task : goal.invariant-loop-task

@@ -1,13 +1,8 @@
 use Rattle.std.proofs.Common.{◌≡◌, ◌∷◌}
 use Rattle.msrp_plan.proofs.Common.{ℕ, List, [], arith, refl}
-use Rattle.msrp_board.specs.Boards.{entries_at}
-use Rattle.msrp_board.specs.History.{Event, IsServed}
+use Rattle.msrp_run.proofs.Common.{Admitted, AreDone, Done, Event, IsRowOfEvent, IsServed, Paired, entries_at}
 use Rattle.msrp_board.specs.Words.{ticket_word}
-use Rattle.msrp_board.specs.declared.answers.SeatPhase.TheVariants.{Admitted, Done}
-use Rattle.msrp_merge.specs.Pairs.{Paired}
-use Rattle.msrp_merge.specs.Steps.{IsRowOfEvent}
 use Rattle.msrp_run.specs.BrokenRuns.{one_request}
-use Rattle.msrp_run.specs.Threads.{AreDone}
 use Rattle.msrp_run.proofs.laws.broken_runs.Goals as goal
 
 unserved : (h : List Event) → IsServed (ticket_word 1 0) 0 (entries_at one_request.books) h → Paired IsRowOfEvent [] h → ⊥

@@ -1,7 +1,6 @@
 use Rattle.std.proofs.Common.{◌∙◌}
 use Rattle.msrp_plan.proofs.Common.{ap}
-use Rattle.msrp_merge.specs.Merging.{turns_of}
-use Rattle.msrp_merge.specs.Turns.{rows_of}
+use Rattle.msrp_run.proofs.Common.{rows_of, turns_of}
 use Rattle.msrp_merge.proofs.OneMerge.{one_merge}
 use Rattle.msrp_merge.proofs.Runs.{are_turns}
 use Rattle.msrp_run.proofs.laws.ordered_rows_are_merged.Goals as goal

@@ -1,8 +1,6 @@
 use Rattle.std.proofs.Common.{◌≡◌, ◌+◌, ◌<◌, ◌∙◌}
 use Rattle.msrp_plan.proofs.Common.{rules, arith, subst, sym, ap, length, vec_len, vec_items, into_iter_len}
-use Rattle.msrp_board.specs.Seats.{SeatModel}
-use Rattle.msrp_board.specs.Steps.{both}
-use Rattle.msrp_run.specs.Threads.{AllWorked, IsPromise}
+use Rattle.msrp_run.proofs.Common.{AllWorked, IsPromise, SeatModel, both}
 use Rattle.msrp_run.proofs.Threading.{joined_more, rest_joined}
 use Rattle.msrp_run.proofs.threads.join_all.Goals as goal
 

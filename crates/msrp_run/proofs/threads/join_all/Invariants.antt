@@ -1,6 +1,6 @@
 use Rattle.std.proofs.Common.{◌≡◌, ◌+◌, ◌<◌, ◌≤◌}
 use Rattle.msrp_plan.proofs.Common.{ℕ, slice_index_or, vec_len, vec_items, vec_capacity, into_iter_items, into_iter_len}
-use Rattle.msrp_run.specs.Threads.{AllWorked, HasRest, IsPromise, ordered}
+use Rattle.msrp_run.proofs.Common.{AllWorked, HasRest, IsPromise, ordered}
 use Rattle.msrp_run.proofs.threads.join_all.Given as goal
 
 abbrev pub invariant-loop-handle : goal.invariant-loop-handle

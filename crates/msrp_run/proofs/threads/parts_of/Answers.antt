@@ -1,7 +1,6 @@
 use Rattle.std.proofs.Common.{◌≡◌, ◌∙◌}
 use Rattle.msrp_plan.proofs.Common.{rules, subst, sym, vec_items, length}
-use Rattle.msrp_run.specs.declared.workers.CoreParts.{CoreParts}
-use Rattle.msrp_run.specs.Threads.{AllAreNew, AreNewParts}
+use Rattle.msrp_run.proofs.Common.{AllAreNew, AreNewParts, CoreParts}
 use Rattle.msrp_run.proofs.Threading.{parts_more}
 use Rattle.msrp_run.proofs.threads.parts_of.Goals as goal
 

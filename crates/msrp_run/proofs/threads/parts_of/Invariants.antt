@@ -1,6 +1,6 @@
 use Rattle.std.proofs.Common.{◌≡◌, ◌≤◌}
 use Rattle.msrp_plan.proofs.Common.{vec_len, vec_items, vec_capacity}
-use Rattle.msrp_run.specs.Threads.{AllAreNew}
+use Rattle.msrp_run.proofs.Common.{AllAreNew}
 use Rattle.msrp_run.proofs.threads.parts_of.Given as goal
 
 abbrev pub invariant-loop-c : goal.invariant-loop-c

@@ -1,7 +1,5 @@
 use Rattle.msrp_plan.proofs.Common.{List, subst, sym}
-use Rattle.msrp_board.specs.Boards.{entries_at}
-use Rattle.msrp_merge.specs.Merging.{AreLogs, IsMergeOf}
-use Rattle.msrp_merge.specs.Turns.{LogModel}
+use Rattle.msrp_run.proofs.Common.{AreLogs, IsMergeOf, LogModel, entries_at}
 use Rattle.msrp_run.proofs.Headline.{run_of_board}
 use Rattle.msrp_run.proofs.threads.run_threads_if.Goals as goal
 

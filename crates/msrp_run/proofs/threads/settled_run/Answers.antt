@@ -1,6 +1,6 @@
 use Rattle.std.proofs.Common.{◌≡◌}
 use Rattle.msrp_plan.proofs.Common.{rules}
-use Rattle.msrp_merge.specs.Merging.{size_of}
+use Rattle.msrp_run.proofs.Common.{size_of}
 use Rattle.msrp_run.proofs.Headline.{has_all, left_whole, left_off}
 use Rattle.msrp_run.proofs.threads.settled_run.Goals as goal
 

@@ -1,8 +1,6 @@
 use Rattle.std.proofs.Common.{◌≡◌, ◌∙◌}
 use Rattle.msrp_plan.proofs.Common.{rules, subst, ap}
-use Rattle.msrp_plan.specs.declared.ids.CoreId.{CoreId}
-use Rattle.msrp_board.specs.Seats.{SeatModel}
-use Rattle.msrp_run.specs.Threads.{IsPromise}
+use Rattle.msrp_run.proofs.Common.{CoreId, IsPromise, SeatModel}
 use Rattle.msrp_run.proofs.Threading.{rest_with}
 use Rattle.msrp_run.proofs.threads.start.Goals as goal
 

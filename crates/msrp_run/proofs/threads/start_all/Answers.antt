@@ -1,9 +1,6 @@
 use Rattle.std.proofs.Common.{◌≡◌, ◌+◌, ◌<◌, ◌∷◌, ◌∙◌}
 use Rattle.msrp_plan.proofs.Common.{rules, ℕ, suc, List, arith, subst, sym, ap, get_or, length, vec_len, vec_items, into_iter_items, into_iter_len, PlanModel}
-use Rattle.msrp_board.specs.declared.books.BoardSize.{BoardSize}
-use Rattle.msrp_board.specs.declared.books.Conductor.TheVariants.{Aborted}
-use Rattle.msrp_run.specs.declared.workers.CoreParts.{CoreParts}
-use Rattle.msrp_run.specs.Threads.{ArePromised, HasRest, HasOthers, AreNewParts, IsPromise}
+use Rattle.msrp_run.proofs.Common.{Aborted, AreNewParts, ArePromised, BoardSize, CoreParts, HasOthers, HasRest, IsPromise}
 use Rattle.msrp_run.proofs.Threading.{promised_more}
 use Rattle.msrp_run.proofs.threads.start_all.Goals as goal
 

@@ -1,6 +1,6 @@
 use Rattle.std.proofs.Common.{◌≡◌, ◌+◌, ◌<◌, ◌≤◌}
 use Rattle.msrp_plan.proofs.Common.{ℕ, slice_index_or, vec_len, vec_items, vec_capacity, into_iter_items, into_iter_len}
-use Rattle.msrp_run.specs.Threads.{ArePromised, HasOthers, AreNewParts}
+use Rattle.msrp_run.proofs.Common.{AreNewParts, ArePromised, HasOthers}
 use Rattle.msrp_run.proofs.threads.start_all.Given as goal
 
 abbrev pub invariant-loop-parts : goal.invariant-loop-parts

@@ -1,8 +1,7 @@
 use Rattle.std.proofs.Common.{◌+◌}
 use Rattle.msrp_plan.proofs.Common.{IfOk, IfErr, subst, sym, Ok, Err}
 use Rattle.std.specs.declared.result.Result.{Result}
-use Rattle.msrp_board.specs.declared.books.Conductor.TheVariants.{Aborted}
-use Rattle.msrp_run.specs.Threads.{HasRest, HasOthers, IsPromise}
+use Rattle.msrp_run.proofs.Common.{Aborted, HasOthers, HasRest, IsPromise}
 use Rattle.msrp_run.proofs.Threading.{has_next, next_seat, others_less, parts_are_new}
 use Rattle.msrp_run.proofs.threads.start_next.Goals as goal
 

@@ -1,7 +1,6 @@
 use Rattle.std.proofs.Common.{◌≡◌, ◌∙◌}
 use Rattle.msrp_plan.proofs.Common.{subst, sym, ap, arith}
-use Rattle.msrp_core.specs.Ports.{claim_in}
-use Rattle.msrp_run.specs.Ports.{SeatPortModel, HasAsked, IsStepSince, port_of}
+use Rattle.msrp_run.proofs.Common.{HasAsked, IsStepSince, SeatPortModel, claim_in, port_of}
 use Rattle.msrp_run.proofs.OneTurn.{tick_left, port_claims, has_asked, asked_on, has_turned}
 use Rattle.msrp_run.proofs.turns.turn_through.Goals as goal
 

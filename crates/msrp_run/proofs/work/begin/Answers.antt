@@ -1,6 +1,6 @@
 use Rattle.std.proofs.Common.{◌≡◌, ◌++◌, ◌∷◌}
 use Rattle.msrp_plan.proofs.Common.{[], refl, subst}
-use Rattle.msrp_run.specs.Turns.{HasTurned, core_with}
+use Rattle.msrp_run.proofs.Common.{HasTurned, core_with}
 use Rattle.msrp_run.proofs.Working.{may_turn, has_stopped, next_tick}
 use Rattle.msrp_run.proofs.work.begin.Goals as goal
 

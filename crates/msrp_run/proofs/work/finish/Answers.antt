@@ -1,5 +1,5 @@
 use Rattle.msrp_plan.proofs.Common.{refl}
-use Rattle.msrp_board.specs.Steps.{with_admission}
+use Rattle.msrp_run.proofs.Common.{with_admission}
 use Rattle.msrp_run.proofs.Working.{has_arrived, goes_on, has_done}
 use Rattle.msrp_run.proofs.work.finish.Goals as goal
 

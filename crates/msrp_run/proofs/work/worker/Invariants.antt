@@ -1,4 +1,4 @@
-use Rattle.msrp_run.specs.Work.{IsAtWork}
+use Rattle.msrp_run.proofs.Common.{IsAtWork}
 use Rattle.msrp_run.proofs.work.worker.Given as goal
 
 abbrev pub invariant-loop : goal.invariant-loop

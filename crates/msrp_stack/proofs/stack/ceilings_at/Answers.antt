@@ -1,6 +1,6 @@
 use Rattle.std.proofs.Common.{◌≡◌, ◌<◌, ◌∙◌}
 use Rattle.msrp_plan.proofs.Common.{length, arith, ap, length-set}
-use Rattle.msrp_levels.specs.Users.{ceiling_at}
+use Rattle.msrp_stack.proofs.Common.{ceiling_at}
 use Rattle.msrp_stack.proofs.Changes.{told_more}
 use Rattle.msrp_stack.proofs.stack.ceilings_at.Goals as goal
 

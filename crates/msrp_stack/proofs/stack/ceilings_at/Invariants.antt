@@ -1,6 +1,6 @@
 use Rattle.std.proofs.Common.{◌≡◌, ◌<◌}
 use Rattle.msrp_plan.proofs.Common.{slice_index_or, ℕ, length}
-use Rattle.msrp_levels.specs.Users.{ceiling_at}
+use Rattle.msrp_stack.proofs.Common.{ceiling_at}
 use Rattle.msrp_stack.proofs.stack.ceilings_at.Given as goal
 
 abbrev pub invariant-loop-res : goal.invariant-loop-res

@@ -1,6 +1,6 @@
 use Rattle.std.proofs.Common.{◌≡◌, ◌++◌, ◌∷◌, ◌∙◌}
 use Rattle.msrp_plan.proofs.Common.{[], ap, sym, take, take_more}
-use Rattle.std.specs.List.{each_same}
+use Rattle.msrp_stack.proofs.Common.{each_same}
 use Rattle.msrp_stack.proofs.stack.copied_jobs.Goals as goal
 
 pub loop-one-preserved : goal.loop-one-preserved

@@ -1,8 +1,6 @@
 use Rattle.std.proofs.Common.{◌<◌}
 use Rattle.msrp_plan.proofs.Common.{refl, sym, subst}
-use Rattle.msrp_board.specs.declared.answers.SeatPhase.TheVariants.{Admitted}
-use Rattle.msrp_board.specs.declared.held.CoreState.{CoreState}
-use Rattle.msrp_board.specs.Inside.Rule.{page_with_arrival}
+use Rattle.msrp_board.proofs.Common.{Admitted, CoreState, page_with_arrival}
 use Rattle.msrp_board.proofs.Seats.{standing, admitted_page, arriving, seat_changed}
 use Rattle.msrp_board.proofs.CoreStates.{seat_step}
 use Rattle.msrp_board.proofs.Kept.{kept_arrival}

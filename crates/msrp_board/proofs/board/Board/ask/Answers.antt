@@ -1,7 +1,6 @@
 use Rattle.std.proofs.Common.{◌<◌, ◌∙◌}
 use Rattle.msrp_plan.proofs.Common.{sym, ap, subst}
-use Rattle.msrp_plan.specs.declared.units.Phase.TheVariants.{Free}
-use Rattle.msrp_board.specs.Seats.{BoardModel, SeatModel}
+use Rattle.msrp_board.proofs.Common.{BoardModel, Free, SeatModel}
 use Rattle.msrp_board.proofs.Seats.{acting, free_claim, entered_held, entered_seen, entered_behind}
 use Rattle.msrp_board.proofs.board.Board.ask.Goals as goal
 
@@ -9,7 +8,7 @@ pub own-state-requires : goal.own-state-requires
 own-state-requires c = let a = acting _ _ _ _ c.seat.inside.table_seat.me _ Free c.seat.invariant c.seat.view_is c.requires.free in (c.seat.inside.table_seat.me.0, a.core, a.page, a.own)
 
 pub ask-word-requires-clause-free : goal.ask-word-requires-clause-free
-ask-word-requires-clause-free c = let a = acting _ _ _ _ c.seat.inside.table_seat.me _ Free c.seat.invariant c.seat.view_is c.requires.free in record { core = a.core; page = a.page; has = a.own.only; claims = free_claim _ a.claims; admitted = a.room; quiet = a.quiet }
+ask-word-requires-clause-free c = let a = acting _ _ _ _ c.seat.inside.table_seat.me _ Free c.seat.invariant c.seat.view_is c.requires.free in record { at = record { core = a.core; page = a.page; has = a.own.only; admitted = a.room }; claims = free_claim _ a.claims; quiet = a.quiet }
 
 pub invariant_of-seat : goal.invariant_of-seat
 invariant_of-seat c =

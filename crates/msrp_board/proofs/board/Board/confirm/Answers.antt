@@ -1,6 +1,6 @@
 use Rattle.std.proofs.Common.{◌∙◌, ◌≡◌}
 use Rattle.msrp_plan.proofs.Common.{sym, ap}
-use Rattle.msrp_board.specs.Seats.{BoardModel, SeatModel}
+use Rattle.msrp_board.proofs.Common.{BoardModel, SeatModel}
 use Rattle.msrp_board.proofs.Moments.{stands}
 use Rattle.msrp_board.proofs.board.Board.confirm.Goals as goal
 

@@ -1,6 +1,6 @@
 use Rattle.std.proofs.Common.{◌∙◌, ◌≡◌}
 use Rattle.msrp_plan.proofs.Common.{sym, ap}
-use Rattle.msrp_board.specs.Seats.{BoardModel, SeatModel}
+use Rattle.msrp_board.proofs.Common.{BoardModel, SeatModel}
 use Rattle.msrp_board.proofs.SeatParts.{joined_tie, both_is_seat, both_seen}
 use Rattle.msrp_board.proofs.board.Board.joined.Goals as goal
 

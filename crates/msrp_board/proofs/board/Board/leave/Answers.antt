@@ -1,11 +1,6 @@
 use Rattle.std.proofs.Common.{◌+◌, ◌<◌, ◌∙◌, ◌≡◌}
 use Rattle.msrp_plan.proofs.Common.{refl, sym, ap, subst}
-use Rattle.msrp_plan.specs.declared.ids.ResId.{ResId}
-use Rattle.msrp_plan.specs.declared.units.Call.TheVariants.{Leave}
-use Rattle.msrp_plan.specs.declared.units.Phase.TheVariants.{Holding}
-use Rattle.msrp_board.specs.declared.books.BoardSize.{BoardSize}
-use Rattle.msrp_board.specs.Seats.{BoardModel, SeatModel}
-use Rattle.msrp_board.specs.Steps.{with_entry, IsBehind}
+use Rattle.msrp_board.proofs.Common.{BoardModel, BoardSize, Holding, IsBehind, Leave, ResId, SeatModel, with_entry}
 use Rattle.msrp_board.proofs.Seats.{acting, claiming, holds_state, holds_res, entered_held, entered_seen, entered_behind}
 use Rattle.msrp_board.proofs.board.Board.leave.Goals as goal
 
@@ -24,7 +19,7 @@ leave-word-requires-clause-res c =
     (subst (λ (z : BoardSize). c.in-Holds.res < z.resources) size k.below, c.self.invariant.words ∙ ap (λ (z : BoardSize). z.resources + 1) (sym c.self.invariant.keyed))
 
 pub leave-word-requires-clause-holding : goal.leave-word-requires-clause-holding
-leave-word-requires-clause-holding c = let k = claiming _ _ _ _ c.seat.inside.table_seat.me _ (Holding c.requires.holding.0) c.own-state.result _ c.seat.invariant c.seat.view_is c.requires.holding.1 (c.own-state.ensures c.seat.inside.table_seat.me.0) c.in-Holds.is in (_, record { core = k.act.core; page = k.act.page; has = k.act.own.only; claims = k.claim; admitted = k.act.room; quiet = k.act.quiet })
+leave-word-requires-clause-holding c = let k = claiming _ _ _ _ c.seat.inside.table_seat.me _ (Holding c.requires.holding.0) c.own-state.result _ c.seat.invariant c.seat.view_is c.requires.holding.1 (c.own-state.ensures c.seat.inside.table_seat.me.0) c.in-Holds.is in (_, record { at = record { core = k.act.core; page = k.act.page; has = k.act.own.only; admitted = k.act.room }; claims = k.claim; quiet = k.act.quiet })
 
 pub invariant_of-seat : goal.invariant_of-seat
 invariant_of-seat c =

@@ -1,12 +1,6 @@
 use Rattle.std.proofs.Common.{◌+◌, ◌*◌, ◌∙◌, ◌≡◌, ◌<◌}
 use Rattle.msrp_plan.proofs.Common.{ltb, leb, sym, ap, subst}
-use Rattle.msrp_board.specs.declared.answers.SeatPhase.TheVariants.{Waiting}
-use Rattle.msrp_board.specs.declared.books.BoardSize.{BoardSize}
-use Rattle.msrp_board.specs.declared.held.CoreState.{CoreState}
-use Rattle.msrp_board.specs.Seats.{BoardModel, SeatModel}
-use Rattle.msrp_board.specs.Words.{high, low}
-use Rattle.msrp_board.specs.Inside.Rule.{page_after_look}
-use Rattle.msrp_board.specs.Inside.Held.{look_of}
+use Rattle.msrp_board.proofs.Common.{BoardModel, BoardSize, CoreState, SeatModel, Waiting, high, look_of, low, page_after_look}
 use Rattle.msrp_board.proofs.Seats.{standing, waiting_page, look_wait, look_go, look_stop, stop_start}
 use Rattle.msrp_board.proofs.Kept.{kept_look}
 use Rattle.msrp_board.proofs.CoreStates.{seat_step}

@@ -1,11 +1,6 @@
 use Rattle.std.proofs.Common.{◌+◌, ◌<◌, ◌==◌, ◌∙◌, ◌≡◌}
 use Rattle.msrp_plan.proofs.Common.{refl, sym, ap, subst}
-use Rattle.msrp_plan.specs.declared.ids.ResId.{ResId}
-use Rattle.msrp_plan.specs.declared.units.Call.TheVariants.{Poll}
-use Rattle.msrp_plan.specs.declared.units.Phase.TheVariants.{Queued}
-use Rattle.msrp_board.specs.declared.books.BoardSize.{BoardSize}
-use Rattle.msrp_board.specs.Seats.{BoardModel, SeatModel}
-use Rattle.msrp_board.specs.Steps.{with_entry, IsBehind}
+use Rattle.msrp_board.proofs.Common.{BoardModel, BoardSize, IsBehind, Poll, Queued, ResId, SeatModel, with_entry}
 use Rattle.msrp_board.proofs.Seats.{acting, claiming, waits_state, waits_res, entered_held, entered_seen, entered_behind}
 use Rattle.msrp_board.proofs.board.Board.poll.Goals as goal
 
@@ -24,7 +19,7 @@ poll-word-requires-clause-res c =
     (subst (λ (z : BoardSize). c.in-Waits.res < z.resources) size k.below, c.self.invariant.words ∙ ap (λ (z : BoardSize). z.resources + 1) (sym c.self.invariant.keyed))
 
 pub poll-word-requires-clause-queued : goal.poll-word-requires-clause-queued
-poll-word-requires-clause-queued c = let k = claiming _ _ _ _ c.seat.inside.table_seat.me _ (Queued c.requires.queued.0) c.own-state.result _ c.seat.invariant c.seat.view_is c.requires.queued.1 (c.own-state.ensures c.seat.inside.table_seat.me.0) c.in-Waits.is in record { core = k.act.core; page = k.act.page; has = k.act.own.only; claims = k.claim; admitted = k.act.room; quiet = k.act.quiet }
+poll-word-requires-clause-queued c = let k = claiming _ _ _ _ c.seat.inside.table_seat.me _ (Queued c.requires.queued.0) c.own-state.result _ c.seat.invariant c.seat.view_is c.requires.queued.1 (c.own-state.ensures c.seat.inside.table_seat.me.0) c.in-Waits.is in record { at = record { core = k.act.core; page = k.act.page; has = k.act.own.only; admitted = k.act.room }; claims = k.claim; quiet = k.act.quiet }
 
 pub invariant_of-seat : goal.invariant_of-seat
 invariant_of-seat c =

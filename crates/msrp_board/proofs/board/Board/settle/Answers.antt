@@ -1,7 +1,6 @@
 use Rattle.std.proofs.Common.{◌≡◌, ◌∙◌}
 use Rattle.msrp_plan.proofs.Common.{arith, sym, ap}
-use Rattle.msrp_board.specs.Seats.{BoardModel, SeatModel, book_at}
-use Rattle.msrp_board.specs.Inside.Held.{settled_as}
+use Rattle.msrp_board.proofs.Common.{BoardModel, SeatModel, book_at, settled_as}
 use Rattle.msrp_board.proofs.End.{settles, not_stopped}
 use Rattle.msrp_board.proofs.board.Board.settle.Goals as goal
 

@@ -1,7 +1,6 @@
 use Rattle.std.proofs.Common.{◌∙◌}
 use Rattle.msrp_plan.proofs.Common.{ap, sym}
-use Rattle.std.specs.Option.{is_some}
-use Rattle.msrp_board.specs.Seats.{SeatModel, book_at}
+use Rattle.msrp_board.proofs.Common.{SeatModel, book_at, is_some}
 use Rattle.msrp_board.proofs.Seats.{is_seat}
 use Rattle.msrp_board.proofs.Told.{held_some}
 use Rattle.msrp_board.proofs.seat.BoardSeat.has_book.Goals as goal

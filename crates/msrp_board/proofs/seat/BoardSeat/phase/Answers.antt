@@ -1,8 +1,7 @@
 use Rattle.std.proofs.Common.{◌∙◌}
 use Rattle.msrp_plan.proofs.Common.{ap}
 use Rattle.msrp_board.proofs.Told.{phase_shown}
-use Rattle.msrp_board.specs.Books.{phase_in}
-use Rattle.msrp_board.specs.Seats.{SeatModel}
+use Rattle.msrp_board.proofs.Common.{SeatModel, phase_in}
 use Rattle.msrp_board.proofs.seat.BoardSeat.phase.Goals as goal
 
 pub returns-clause-value : goal.returns-clause-value

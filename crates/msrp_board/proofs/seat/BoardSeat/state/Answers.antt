@@ -1,7 +1,7 @@
 use Rattle.msrp_plan.proofs.Common.{refl, sym, subst}
 use Rattle.msrp_board.proofs.Seats.{core_own, is_seat}
 use Rattle.msrp_board.proofs.Told.{lock_told, acted_told}
-use Rattle.msrp_board.specs.Inside.Held.{Shows, state_of}
+use Rattle.msrp_board.proofs.Common.{Shows, state_of}
 use Rattle.msrp_board.proofs.seat.BoardSeat.state.Goals as goal
 
 pub own-requires : goal.own-requires

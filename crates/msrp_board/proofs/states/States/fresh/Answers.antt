@@ -1,9 +1,6 @@
 use Rattle.std.proofs.Common.{◌==◌, ◌≡◌, ◌+◌, if◌then◌else◌}
 use Rattle.msrp_plan.proofs.Common.{Some, replicate, sym, subst, arith}
-use Rattle.crossbeam_utils.specs.Padded.{padded_value}
-use Rattle.msrp_board.specs.declared.states.Kept.{Kept}
-use Rattle.msrp_board.specs.Inside.Held.{kept_of, state_at}
-use Rattle.msrp_board.specs.Inside.Rule.{empty_page}
+use Rattle.msrp_board.proofs.Common.{Kept, empty_page, kept_of, padded_value, state_at}
 use Rattle.msrp_board.proofs.Start.{fresh_step}
 use Rattle.msrp_board.proofs.states.States.fresh.Goals as goal
 

@@ -1,6 +1,5 @@
 use Rattle.msrp_plan.proofs.Common.{Some, replicate}
-use Rattle.msrp_board.specs.Inside.Held.{AreStates}
-use Rattle.msrp_board.specs.Inside.Rule.{empty_page}
+use Rattle.msrp_board.proofs.Common.{AreStates, empty_page}
 use Rattle.msrp_board.proofs.states.States.fresh.Given as goal
 
 abbrev pub invariant-loop-core : goal.invariant-loop-core

@@ -1,8 +1,6 @@
 use Rattle.std.proofs.Common.{◌∙◌}
 use Rattle.msrp_plan.proofs.Common.{ap, subst}
-use Rattle.crossbeam_utils.specs.Padded.{padded_value}
-use Rattle.msrp_board.specs.declared.states.Kept.{Kept}
-use Rattle.msrp_board.specs.Inside.Held.{state_of}
+use Rattle.msrp_board.proofs.Common.{Kept, padded_value, state_of}
 use Rattle.msrp_board.proofs.CoreStates.{IsFirst, own_first}
 use Rattle.msrp_board.proofs.states.States.own.Goals as goal
 

@@ -2,9 +2,7 @@ use Rattle.std.proofs.Common.{◌≡◌, ◌+◌}
 use Rattle.msrp_plan.proofs.Common.{length, vec_capacity, None, refl, ap, sym, subst, arith}
 use Rattle.msrp_plan.specs.declared.rows.Kind.TheVariants.{Run}
 use Rattle.msrp_plan.specs.declared.units.Op.TheVariants.{Run as RunUnit}
-use Rattle.msrp_core.specs.CoreJobs.{ActsFor, IsCurrent}
-use Rattle.msrp_core.specs.Repeats.{CanRepeat, kind_again}
-use Rattle.msrp_core.specs.declared.jobs.Jobs.{Jobs}
+use Rattle.msrp_core.proofs.Common.{ActsFor, CanRepeat, IsCurrent, Jobs, kind_again}
 use Rattle.msrp_core.proofs.Acting.{unit_acts, working}
 use Rattle.msrp_core.proofs.Repeating.{counted_on, next_work, work_left}
 use Rattle.msrp_core.proofs.jobs.Jobs.act_again.Goals as goal
@@ -17,7 +15,7 @@ returns-in-Some-clause-acts c =
     let can = next_work old c.in-Some.job 1 (omega arith) c.requires.jobs has in
     let is = c.count.ensures in
     subst (λ o. ActsFor old new o c.args.tick c.row_on.result) (sym c.in-Some.is)
-    (unit_acts old new c.in-Some.job RunUnit c.args.tick c.row_on.result old.phase Run None old.stack can.newest.held can (working old c.in-Some.job can)
+    (unit_acts old new c.in-Some.job RunUnit c.args.tick c.row_on.result old.phase Run None old.stack can.running.newest.held can (working old c.in-Some.job can)
     (record {
       active = counted_on old new c.in-Some.job c.requires.jobs has is;
       size = subst (λ (j : Jobs). length j.stack.started ≡ length j.below.items) (sym is) c.requires.jobs.size;
@@ -27,7 +25,7 @@ returns-in-Some-clause-acts c =
       others = subst (λ (j : Jobs). j ≡ record old { stack = j.stack; progress = j.progress; below = j.below; rising = j.rising; units = j.units }) (sym is) refl;
       current = subst IsCurrent (sym is) (record { rising = c.requires.jobs.current.rising; units = c.requires.jobs.current.units });
     })
-    (record { tick_is = c.row_on.ensures.tick; core_is = c.row_on.ensures.core; job_is = c.row_on.ensures.job; kind_is = c.row_on.ensures.kind; res_is = c.row_on.ensures.res })
+    (record { tick_is = c.row_on.ensures.tick_is; core_is = c.row_on.ensures.core_is; job_is = c.row_on.ensures.job_is; kind_is = c.row_on.ensures.kind_is; res_is = c.row_on.ensures.res_is })
     refl refl refl refl)
 
 pub returns-in-Some-clause-left : goal.returns-in-Some-clause-left

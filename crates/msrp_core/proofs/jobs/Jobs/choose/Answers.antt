@@ -1,7 +1,6 @@
 use Rattle.std.proofs.Common.{◌≡◌, ◌∙◌}
 use Rattle.msrp_plan.proofs.Common.{Some, true, false, ap, arith, lt-ltb, le-ltb, PlanModel, level}
-use Rattle.msrp_ready.specs.Ready.{ReadyModel}
-use Rattle.msrp_stack.specs.Stack.{current_ceiling}
+use Rattle.msrp_core.proofs.Common.{ReadyModel, current_ceiling}
 use Rattle.msrp_core.proofs.Running.{choice_before, choose_risen, choose_unrisen, risen_known, states_before}
 use Rattle.msrp_core.proofs.jobs.Jobs.choose.Goals as goal
 

@@ -2,8 +2,7 @@ use Rattle.std.proofs.Common.{◌∙◌, ◌∷◌}
 use Rattle.msrp_plan.proofs.Common.{ap, refl, Some, sym, allows}
 use Rattle.msrp_plan.specs.declared.rows.Kind.TheVariants.{Lock}
 use Rattle.msrp_plan.specs.declared.units.Op.TheVariants.{Lock as LockUnit}
-use Rattle.msrp_core.specs.Active.{is_waiting_phase}
-use Rattle.msrp_core.specs.declared.jobs.Jobs.{Jobs}
+use Rattle.msrp_core.proofs.Common.{Action, Jobs, is_waiting_phase}
 use Rattle.msrp_core.proofs.Acting.{last_by, lock_fits, locking, same_here, still_of_core, still_current, still_running, unit_acts}
 use Rattle.msrp_core.proofs.jobs.Jobs.lock.Goals as goal
 
@@ -11,20 +10,20 @@ pub lock-requires-clause-room : goal.lock-requires-clause-room
 lock-requires-clause-room c = lock_fits c.args.self.now c.args.job c.args.res c.requires.can c.requires.local
 
 pub advance-requires-clause-running : goal.advance-requires-clause-running
-advance-requires-clause-running c = still_running c.args.self.now c.args.job (LockUnit c.args.res) c.requires.can _ (c.args.res.0 ∷ c.requires.can.newest.held) (locking c.args.self.now c.args.job c.args.res c.requires.can c.lock.new.self c.lock.ensures c.requires.local).active
+advance-requires-clause-running c = still_running c.args.self.now c.args.job (LockUnit c.args.res) c.requires.can _ (c.args.res.0 ∷ c.requires.can.running.newest.held) (locking c.args.self.now c.args.job c.args.res c.requires.can c.lock.new.self c.lock.ensures c.requires.local).active
 
 pub advance-requires-clause-current : goal.advance-requires-clause-current
-advance-requires-clause-current c = still_current c.args.self.now c.args.job (LockUnit c.args.res) c.requires.can c.args.self.now.phase c.lock.new.self (c.args.res.0 ∷ c.requires.can.newest.held) (locking c.args.self.now c.args.job c.args.res c.requires.can c.lock.new.self c.lock.ensures c.requires.local)
+advance-requires-clause-current c = still_current c.args.self.now c.args.job (LockUnit c.args.res) c.requires.can c.args.self.now.phase c.lock.new.self (c.args.res.0 ∷ c.requires.can.running.newest.held) (locking c.args.self.now c.args.job c.args.res c.requires.can c.lock.new.self c.lock.ensures c.requires.local)
 
 pub advance-requires-clause-core : goal.advance-requires-clause-core
-advance-requires-clause-core c = still_of_core c.args.self.now c.args.job (LockUnit c.args.res) c.requires.can c.args.self.now.phase c.lock.new.self (c.args.res.0 ∷ c.requires.can.newest.held) (locking c.args.self.now c.args.job c.args.res c.requires.can c.lock.new.self c.lock.ensures c.requires.local)
+advance-requires-clause-core c = still_of_core c.args.self.now c.args.job (LockUnit c.args.res) c.requires.can c.args.self.now.phase c.lock.new.self (c.args.res.0 ∷ c.requires.can.running.newest.held) (locking c.args.self.now c.args.job c.args.res c.requires.can c.lock.new.self c.lock.ensures c.requires.local)
 
 pub advance-requires-clause-last : goal.advance-requires-clause-last
-advance-requires-clause-last c = last_by c.args.self.now c.args.job (LockUnit c.args.res) c.requires.can c.args.self.now.phase c.lock.new.self (c.args.res.0 ∷ c.requires.can.newest.held) (locking c.args.self.now c.args.job c.args.res c.requires.can c.lock.new.self c.lock.ensures c.requires.local)
+advance-requires-clause-last c = last_by c.args.self.now c.args.job (LockUnit c.args.res) c.requires.can c.args.self.now.phase c.lock.new.self (c.args.res.0 ∷ c.requires.can.running.newest.held) (locking c.args.self.now c.args.job c.args.res c.requires.can c.lock.new.self c.lock.ensures c.requires.local)
 
 pub returns-clause-acts : goal.returns-clause-acts
 returns-clause-acts c = λ tick r is.
-    unit_acts c.args.self.now c.advance.new.self c.args.job (LockUnit c.args.res) tick r c.args.self.now.phase Lock (Some c.args.res) c.lock.new.self (c.args.res.0 ∷ c.requires.can.newest.held) c.requires.can (locking c.args.self.now c.args.job c.args.res c.requires.can c.lock.new.self c.lock.ensures c.requires.local)
+    unit_acts c.args.self.now c.advance.new.self c.args.job (LockUnit c.args.res) tick r c.args.self.now.phase Lock (Some c.args.res) c.lock.new.self (c.args.res.0 ∷ c.requires.can.running.newest.held) c.requires.can (locking c.args.self.now c.args.job c.args.res c.requires.can c.lock.new.self c.lock.ensures c.requires.local)
     (record { active = c.advance.ensures.active; size = c.advance.ensures.size; room = c.advance.ensures.room; stack_plan = c.advance.ensures.stack.plan; stack_core = c.advance.ensures.stack.core; others = c.advance.ensures.others; current = c.advance.ensures.current })
-    (record { tick_is = is.tick_is; core_is = is.core_is ∙ sym (ap (λ (j : Jobs). j.core) c.advance.ensures.others); job_is = is.job_is; kind_is = is.kind_is ∙ c.action_on.ensures.kind; res_is = is.res_is ∙ c.action_on.ensures.res })
+    (record { tick_is = is.tick_is; core_is = is.core_is ∙ sym (ap (λ (j : Jobs). j.core) c.advance.ensures.others); job_is = is.job_is; kind_is = is.kind_is ∙ ap (λ (a : Action). a.kind) c.action_on.ensures; res_is = is.res_is ∙ ap (λ (a : Action). a.res) c.action_on.ensures })
     (same_here c.args.res) (ap (λ b. allows b (is_waiting_phase c.args.self.now.phase) (LockUnit c.args.res) Lock) c.requires.local) refl refl

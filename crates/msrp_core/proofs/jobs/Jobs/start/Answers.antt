@@ -1,8 +1,6 @@
 use Rattle.std.proofs.Common.{◌||◌, ◌∙◌}
 use Rattle.msrp_plan.proofs.Common.{[], nat_lt, refl, ap, arith, and_parts, level, is_job, comes_first, known_task}
-use Rattle.msrp_ready.specs.Ready.{is_among}
-use Rattle.msrp_stack.specs.Stack.{current_ceiling, newest}
-use Rattle.msrp_core.specs.Active.{state_in}
+use Rattle.msrp_core.proofs.Common.{current_ceiling, is_among, newest, state_in}
 use Rattle.msrp_core.proofs.Running.{ready_known, free_for, can_start, begun_room, begun_fits, begun_in, begun_states}
 use Rattle.msrp_core.proofs.jobs.Jobs.start.Goals as goal
 

@@ -21,9 +21,6 @@ returns c =
     let lent = running_units jobs c.args.job c.requires.jobs.size c.requires.jobs.current run in
     record {
       jobs_fit = c.requires.jobs;
-      newest = run.newest;
-      below = run.below;
-      active = run.active;
-      same = run.same;
+      running = run;
       unit = ap (slice_get (units jobs.plan.now c.args.job)) (sym d) ∙ (ap (λ l. slice_get l c.progress.result) (sym lent) ∙ c.unit.ensures);
     }

@@ -1,6 +1,6 @@
 use Rattle.std.proofs.Common.{◌≡◌, ◌≤◌, ◌∙◌}
 use Rattle.msrp_plan.proofs.Common.{arith, ap, subst, refl, rules, length, vec_capacity, [], jobs_on, IsPlan}
-use Rattle.msrp_ready.specs.Ready.{ReadyModel}
+use Rattle.msrp_core.proofs.Common.{ReadyModel}
 use Rattle.msrp_core.proofs.Running.{none_fits}
 use Rattle.msrp_core.proofs.jobs.Jobs.with_room.Goals as goal
 

@@ -1,7 +1,6 @@
 use Rattle.std.proofs.Common.{◌<◌, ◌+◌, ◌-◌, ◌++◌, ◌∷◌, ◌≡◌, ◌∙◌}
 use Rattle.msrp_plan.proofs.Common.{[], Some, sym, subst, arith, none-some, IsCoreTurn}
-use Rattle.msrp_core.specs.Machine.{StandsAfter, MachineModel}
-use Rattle.msrp_core.specs.MachineView.{machine_view}
+use Rattle.msrp_core.proofs.Common.{MachineModel, StandsAfter, machine_view}
 use Rattle.msrp_core.proofs.Repeating.{can_less, known_row, repeats_only, row_next, stands_next, view_next}
 use Rattle.msrp_core.proofs.Turning.{acts_core, acts_job, acts_tick, core_after}
 use Rattle.msrp_core.proofs.machine.Machine.repeat.Goals as goal

@@ -1,9 +1,6 @@
 use Rattle.std.proofs.Common.{◌+◌, ◌++◌, ◌∷◌, ◌≡◌, ◌∙◌}
 use Rattle.msrp_plan.proofs.Common.{[], Some, ap, sym, subst, none-some, same_Some, IsCoreTurn}
-use Rattle.msrp_plan.specs.declared.ids.CoreId.{CoreId}
-use Rattle.msrp_core.specs.Machine.{IsRefused, MachineModel, StandsAfter}
-use Rattle.msrp_core.specs.MachineView.{machine_view}
-use Rattle.msrp_core.specs.Repeats.{Polls, spin_again}
+use Rattle.msrp_core.proofs.Common.{CoreId, IsRefused, MachineModel, Polls, StandsAfter, machine_view, spin_again}
 use Rattle.msrp_core.proofs.Repeating.{awaits_global, can_spin, is_spin, polls_on, repeats_only, row_spins, stands_spins, view_spins}
 use Rattle.msrp_core.proofs.machine.Machine.spin_on.Goals as goal
 

@@ -1,7 +1,5 @@
 use Rattle.msrp_plan.proofs.Common.{length, subst, jobs_on, state_after}
-use Rattle.msrp_core.specs.CoreJobs.{state_of}
-use Rattle.msrp_core.specs.CoreStates.{IsCoreState}
-use Rattle.msrp_core.specs.Machine.{MachineModel, StandsAfter}
+use Rattle.msrp_core.proofs.Common.{IsCoreState, MachineModel, StandsAfter, state_of}
 use Rattle.msrp_core.proofs.Turning.{told_from}
 use Rattle.msrp_core.proofs.machine.Machine.state.Goals as goal
 

@@ -1,5 +1,5 @@
 use Rattle.msrp_plan.proofs.Common.{subst, IsCoreTurn}
-use Rattle.msrp_core.specs.Machine.{MachineModel, StandsAfter}
+use Rattle.msrp_core.proofs.Common.{MachineModel, StandsAfter}
 use Rattle.msrp_core.proofs.machine.Machine.turn.Goals as goal
 
 pub returns-in-None-clause-row : goal.returns-in-None-clause-row

@@ -1,9 +1,6 @@
 use Rattle.std.proofs.Common.{◌+◌, ◌++◌, ◌∷◌, ◌≡◌, ◌∙◌}
 use Rattle.msrp_plan.proofs.Common.{[], sym, ap, subst, arith, refl, same_Some, jobs_on, IsCoreTurn, state_after}
-use Rattle.msrp_ready.specs.Ready.{ReadyModel}
-use Rattle.msrp_core.specs.CoreJobs.{state_of}
-use Rattle.msrp_core.specs.Machine.{StandsAfter, MachineModel}
-use Rattle.msrp_core.specs.MachineView.{machine_view}
+use Rattle.msrp_core.proofs.Common.{MachineModel, ReadyModel, StandsAfter, machine_view, state_of}
 use Rattle.msrp_core.proofs.Repeating.{apart_by, can_kind, repeats_by, repeats_only, row_by, spins_by, stands_by}
 use Rattle.msrp_core.proofs.Turning.{acts_core, core_after, fits_after, ready_after, told_from}
 use Rattle.msrp_core.proofs.machine.Machine.turn_anew.Goals as goal

@@ -1,8 +1,6 @@
 use Rattle.std.proofs.Common.{◌≡◌}
 use Rattle.msrp_plan.proofs.Common.{[], map, refl, sym, subst, arith, rules, jobs_on, state_after}
-use Rattle.msrp_ready.specs.Ready.{ReadyModel}
-use Rattle.msrp_core.specs.Active.{state_in}
-use Rattle.msrp_core.specs.CoreJobs.{active_in}
+use Rattle.msrp_core.proofs.Common.{ReadyModel, active_in, state_in}
 use Rattle.msrp_core.proofs.machine.Machine.with_room.Goals as goal
 
 pub invariant_of-result : goal.invariant_of-result

@@ -1,6 +1,6 @@
 use Rattle.std.proofs.Common.{◌≡◌, ◌∙◌}
 use Rattle.msrp_plan.proofs.Common.{length, rules, ap, sym}
-use Rattle.msrp_merge.specs.Turns.{LogModel}
+use Rattle.msrp_merge.proofs.Common.{LogModel}
 use Rattle.msrp_merge.proofs.Keeping.{from_length}
 use Rattle.msrp_merge.proofs.logs.CoreLog.len.Goals as goal
 

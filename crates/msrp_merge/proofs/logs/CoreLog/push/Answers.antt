@@ -1,7 +1,6 @@
 use Rattle.std.proofs.Common.{◌≡◌, ◌+◌, ◌++◌, ◌∷◌, ◌∙◌}
 use Rattle.msrp_plan.proofs.Common.{[], length, vec_len, rules, ap, sym, arith}
-use Rattle.msrp_merge.specs.Keeping.{turn_of, turns_from}
-use Rattle.msrp_merge.specs.Turns.{LogModel}
+use Rattle.msrp_merge.proofs.Common.{LogModel, turn_of, turns_from}
 use Rattle.msrp_merge.proofs.Keeping.{from_length, from_push}
 use Rattle.msrp_merge.proofs.logs.CoreLog.push.Goals as goal
 

@@ -1,7 +1,6 @@
 use Rattle.std.proofs.Common.{◌≡◌, ◌+◌, ◌∙◌}
 use Rattle.msrp_plan.proofs.Common.{get_or, length, vec_len, rules, ap, sym, arith}
-use Rattle.msrp_merge.specs.Keeping.{turn_of}
-use Rattle.msrp_merge.specs.Turns.{LogModel}
+use Rattle.msrp_merge.proofs.Common.{LogModel, turn_of}
 use Rattle.msrp_merge.proofs.Keeping.{from_at, from_length}
 use Rattle.msrp_merge.proofs.logs.CoreLog.turn.Goals as goal
 

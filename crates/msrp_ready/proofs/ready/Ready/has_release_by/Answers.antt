@@ -1,6 +1,6 @@
 use Rattle.std.proofs.Common.{◌∙◌}
 use Rattle.msrp_plan.proofs.Common.{ap, nat_le, arith}
-use Rattle.msrp_ready.specs.Ready.{has_release_by}
+use Rattle.msrp_ready.proofs.Common.{has_release_by}
 use Rattle.msrp_ready.proofs.Releases.{is_told}
 use Rattle.msrp_ready.proofs.ready.Ready.has_release_by.Goals as goal
 

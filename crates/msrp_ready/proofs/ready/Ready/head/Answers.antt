@@ -1,7 +1,6 @@
 use Rattle.std.proofs.Common.{◌∙◌}
 use Rattle.msrp_plan.proofs.Common.{Some, sym, ap}
-use Rattle.msrp_ready.specs.Keyed.{entry_keys}
-use Rattle.msrp_ready.specs.Ready.{head}
+use Rattle.msrp_ready.proofs.Common.{entry_keys, head}
 use Rattle.msrp_ready.proofs.Standing.{head_none, head_some}
 use Rattle.msrp_ready.proofs.ready.Ready.head.Goals as goal
 

@@ -1,8 +1,6 @@
 use Rattle.std.proofs.Common.{◌<◌, ◌-◌, ◌∙◌}
 use Rattle.msrp_plan.proofs.Common.{Some, None, length, drop, subst, ap, sym, All}
-use Rattle.std.proofs.lemmas.List.Elements.{All-take, All-drop}
-use Rattle.msrp_ready.specs.declared.keyed.Entry.{Entry}
-use Rattle.msrp_ready.specs.Ready.{ReadyModel, head}
+use Rattle.msrp_ready.proofs.Common.{All-drop, All-take, Entry, ReadyModel, head}
 use Rattle.msrp_ready.proofs.Entries.{known_tasks}
 use Rattle.msrp_ready.proofs.Ahead.{ahead_of}
 use Rattle.msrp_ready.proofs.ready.Ready.head_of_released.Goals as goal

@@ -1,6 +1,6 @@
 use Rattle.std.proofs.Common.{◌∙◌}
 use Rattle.msrp_plan.proofs.Common.{ap, sym, arith, lt-leb, le-leb}
-use Rattle.msrp_ready.specs.Ready.{has_release_by}
+use Rattle.msrp_ready.proofs.Common.{has_release_by}
 use Rattle.msrp_ready.proofs.Releases.{coming_tells, never_tells}
 use Rattle.msrp_ready.proofs.ready.Ready.next_release.Goals as goal
 

@@ -1,10 +1,6 @@
 use Rattle.std.proofs.Common.{◌<◌, ◌∙◌}
 use Rattle.msrp_plan.proofs.Common.{Some, List, length, subst, sym, ap, arith, All}
-use Rattle.msrp_plan.specs.declared.ids.JobId.{JobId}
-use Rattle.msrp_ready.specs.Keyed.{entry_keys}
-use Rattle.msrp_ready.specs.declared.keyed.Entry.{Entry}
-use Rattle.msrp_ready.specs.Ready.{ReadyModel, released}
-use Rattle.msrp_ready.specs.ReadyView.{IsComing}
+use Rattle.msrp_ready.proofs.Common.{Entry, IsComing, JobId, ReadyModel, entry_keys, released}
 use Rattle.msrp_ready.proofs.Entries.{known_tasks}
 use Rattle.msrp_ready.proofs.Moving.{sizes, releases}
 use Rattle.msrp_ready.proofs.ready.Ready.release_to.Goals as goal

@@ -1,7 +1,6 @@
 use Rattle.std.proofs.Common.{◌∷◌, ◌||◌, ◌∙◌}
 use Rattle.msrp_plan.proofs.Common.{Some, length, refl, sym, ap, arith, IsPermutation-sym, Contains-permutation, same_job}
-use Rattle.msrp_ready.specs.Keyed.{entry_keys, job_of}
-use Rattle.msrp_ready.specs.Ready.{head, is_among, ReadyModel}
+use Rattle.msrp_ready.proofs.Common.{ReadyModel, entry_keys, head, is_among, job_of}
 use Rattle.msrp_ready.proofs.Standing.{head_none, head_some}
 use Rattle.msrp_ready.proofs.Moving.{sizes, taken_on, taken_by_one}
 use Rattle.msrp_ready.proofs.Walks.{few_of_most}

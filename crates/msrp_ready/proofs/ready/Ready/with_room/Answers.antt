@@ -1,7 +1,6 @@
 use Rattle.std.proofs.Common.{◌∙◌}
 use Rattle.msrp_plan.proofs.Common.{ap, subst}
-use Rattle.msrp_ready.specs.Heap.{HeapModel}
-use Rattle.msrp_ready.specs.ReadyView.{IsComing}
+use Rattle.msrp_ready.proofs.Common.{HeapModel, IsComing}
 use Rattle.msrp_ready.proofs.Moving.{nothing_released}
 use Rattle.msrp_ready.proofs.ready.Ready.with_room.Goals as goal
 

@@ -1,7 +1,6 @@
 use Rattle.std.proofs.Common.{◌≡◌, ◌+◌, ◌≤◌, ◌++◌, ◌∷◌, ◌∙◌}
 use Rattle.msrp_plan.proofs.Common.{[], List, map, length, length-append, sym, ap, subst, arith, range_with_len}
-use Rattle.msrp_report.specs.Lines.{line_of}
-use Rattle.msrp_report.specs.declared.lines.Line.{Line}
+use Rattle.msrp_report.proofs.Common.{Line, line_of}
 use Rattle.msrp_report.proofs.LineJobs.{map_next}
 use Rattle.msrp_report.proofs.Reporting.{blocked_bounded, spins_bounded}
 use Rattle.msrp_report.proofs.counter.Counter.end.Goals as goal

@@ -1,8 +1,7 @@
 use Rattle.std.proofs.Common.{◌≡◌, ◌≤◌}
 use Rattle.msrp_plan.proofs.Common.{List, map, length, vec_capacity, range_with_len}
 use Rattle.msrp_plan.specs.declared.rows.Row.{Row as TraceRow}
-use Rattle.msrp_report.specs.Inside.Tallies.{HasTallied}
-use Rattle.msrp_report.specs.Lines.{line_of}
+use Rattle.msrp_report.proofs.Common.{HasTallied, line_of}
 use Rattle.msrp_report.proofs.counter.Counter.end.Given as goal
 
 abbrev pub invariant-loop-task : goal.invariant-loop-task

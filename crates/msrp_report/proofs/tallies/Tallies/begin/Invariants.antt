@@ -1,7 +1,7 @@
 use Rattle.std.proofs.Common.{◌≡◌}
 use Rattle.msrp_plan.proofs.Common.{List}
 use Rattle.msrp_plan.specs.declared.rows.Row.{Row as TraceRow}
-use Rattle.msrp_report.specs.Inside.Tallies.{HasReleased, due_count}
+use Rattle.msrp_report.proofs.Common.{HasReleased, due_count}
 use Rattle.msrp_report.proofs.tallies.Tallies.begin.Given as goal
 
 abbrev pub invariant-loop-self : goal.invariant-loop-self

@@ -1,5 +1,5 @@
 use Rattle.msrp_plan.proofs.Common.{ap, arith}
-use Rattle.msrp_report.specs.declared.counts.JobCount.{JobCount}
+use Rattle.msrp_report.proofs.Common.{JobCount}
 use Rattle.msrp_report.proofs.JobTallies.{over_told, blocker_told}
 use Rattle.msrp_report.proofs.tallies.Tallies.blocked.Goals as goal
 

@@ -1,8 +1,6 @@
 use Rattle.std.proofs.Common.{◌∙◌}
 use Rattle.msrp_plan.proofs.Common.{ap, sym, arith, core_of}
-use Rattle.msrp_report.specs.Inside.Tallies.{blocking_by}
-use Rattle.msrp_report.specs.declared.counts.JobCount.{JobCount}
-use Rattle.msrp_report.specs.declared.tallies.Blocking.TheVariants.{By}
+use Rattle.msrp_report.proofs.Common.{By, JobCount, blocking_by}
 use Rattle.msrp_report.proofs.Active.{all_known, later_known}
 use Rattle.msrp_report.proofs.ActiveRows.{core_read, core_within}
 use Rattle.msrp_report.proofs.JobTallies.{job_known}

@@ -1,6 +1,6 @@
 use Rattle.std.proofs.Common.{◌==◌, ◌∙◌}
 use Rattle.msrp_plan.proofs.Common.{true, false, not, slice_set, refl, ap, arith, eq-eqb, eqb-true, false_from_ne_true, with_item, core_of}
-use Rattle.msrp_report.specs.declared.counts.JobCount.{JobCount}
+use Rattle.msrp_report.proofs.Common.{JobCount}
 use Rattle.msrp_report.proofs.ActiveRows.{core_read, core_within, cores_kept, cores_set, ends, goes_on}
 use Rattle.msrp_report.proofs.JobTallies.{job_known, job_read, room_read, task_read, told_number, told_task}
 use Rattle.msrp_report.proofs.Releases.{releases_kept}

@@ -1,8 +1,6 @@
 use Rattle.std.proofs.Common.{◌==◌, ◌∙◌}
 use Rattle.msrp_plan.proofs.Common.{true, false, slice_set, refl, ap, sym, arith, eq-eqb, eqb-true, false_from_ne_true, with_item, core_of}
-use Rattle.msrp_report.specs.Inside.Counts.{counted_as}
-use Rattle.msrp_report.specs.declared.counts.JobCount.{JobCount}
-use Rattle.msrp_report.specs.declared.tallies.Blocking.TheVariants.{Over}
+use Rattle.msrp_report.proofs.Common.{JobCount, Over, counted_as}
 use Rattle.msrp_report.proofs.ActiveRows.{begins, core_read, core_within, cores_kept, cores_set, may_begin, passes_by}
 use Rattle.msrp_report.proofs.JobTallies.{job_known, job_read, room_read, task_read, told_number, told_task}
 use Rattle.msrp_report.proofs.Releases.{releases_kept}

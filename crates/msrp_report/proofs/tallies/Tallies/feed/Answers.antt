@@ -1,6 +1,6 @@
 use Rattle.std.proofs.Common.{◌++◌, ◌∷◌}
 use Rattle.msrp_plan.proofs.Common.{[], sym, subst, arith}
-use Rattle.msrp_report.specs.Inside.Tallies.{AreTallies, HaveBegun, IsNextOf}
+use Rattle.msrp_report.proofs.Common.{AreTallies, HaveBegun, IsNextOf}
 use Rattle.msrp_report.proofs.ActiveRows.{cores_idle}
 use Rattle.msrp_report.proofs.RowSteps.{begun_push, tallies_idle}
 use Rattle.msrp_report.proofs.tallies.Tallies.feed.Goals as goal

@@ -1,6 +1,6 @@
 use Rattle.std.proofs.Common.{◌==◌, ◌∙◌}
 use Rattle.msrp_plan.proofs.Common.{ap, sym, not}
-use Rattle.msrp_report.specs.declared.counts.JobCount.{JobCount}
+use Rattle.msrp_report.proofs.Common.{JobCount}
 use Rattle.msrp_report.proofs.JobCounts.{started_by_rows}
 use Rattle.msrp_report.proofs.tallies.Tallies.is_unstarted.Goals as goal
 

@@ -3,11 +3,7 @@ use Rattle.msrp_plan.proofs.Common.{List, length, slice_set, refl, ap, subst, sy
 use Rattle.std.proofs.lemmas.List.{with_items_is}
 use Rattle.std.specs.Vec.{with_items}
 use Rattle.msrp_plan.specs.declared.rows.Row.{Row as TraceRow}
-use Rattle.msrp_report.specs.Inside.Tallies.{HasReleased, IsTaskTally}
-use Rattle.msrp_report.specs.declared.tallies.Blocking.{Blocking}
-use Rattle.msrp_report.specs.declared.tallies.NextRelease.{NextRelease}
-use Rattle.msrp_report.specs.declared.tallies.TaskTally.{TaskTally}
-use Rattle.msrp_levels.proofs.PlanJobs.{job_in}
+use Rattle.msrp_report.proofs.Common.{Blocking, HasReleased, IsTaskTally, NextRelease, TaskTally, job_in}
 use Rattle.msrp_report.proofs.LineJobs.{jobs_few}
 use Rattle.msrp_report.proofs.Releases.{one_less, tick_of}
 use Rattle.msrp_report.proofs.TallySteps.{IsFirst, first_is, first_job, first_released, task_released}

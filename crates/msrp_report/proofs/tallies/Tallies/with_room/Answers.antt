@@ -1,7 +1,6 @@
 use Rattle.std.proofs.Common.{◌≡◌, ◌+◌, ◌≤◌, ◌∷◌, ◌∙◌}
 use Rattle.msrp_plan.proofs.Common.{[], ℕ, Some, length, length-append, slice_get, refl, ap, sym, subst, arith, places_push}
-use Rattle.msrp_report.specs.Inside.Tallies.{IsTaskTally}
-use Rattle.msrp_report.specs.declared.tallies.TaskTally.{TaskTally}
+use Rattle.msrp_report.proofs.Common.{IsTaskTally, TaskTally}
 use Rattle.msrp_report.proofs.Starting.{tallies_untold}
 use Rattle.msrp_report.proofs.tallies.Tallies.with_room.Goals as goal
 

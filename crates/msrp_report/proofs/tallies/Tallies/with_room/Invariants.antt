@@ -1,7 +1,6 @@
 use Rattle.std.proofs.Common.{◌≡◌, ◌≤◌}
 use Rattle.msrp_plan.proofs.Common.{ℕ, [], Some, length, slice_get, vec_capacity}
-use Rattle.msrp_report.specs.Inside.Tallies.{IsTaskTally}
-use Rattle.msrp_report.specs.declared.tallies.TaskTally.{TaskTally}
+use Rattle.msrp_report.proofs.Common.{IsTaskTally, TaskTally}
 use Rattle.msrp_report.proofs.tallies.Tallies.with_room.Given as goal
 
 abbrev pub invariant-loop-task : goal.invariant-loop-task

@@ -1,7 +1,6 @@
 use Rattle.std.proofs.Common.{◌≡◌, ◌≤◌, ◌+◌, ◌∷◌, ◌∙◌}
 use Rattle.msrp_plan.proofs.Common.{[], ℕ, Some, length, length-append, slice_get, ap, sym, subst, arith, places_push}
-use Rattle.msrp_report.specs.Inside.Tallies.{AreActiveOf}
-use Rattle.msrp_report.specs.declared.tallies.active.CoreJobs.{CoreJobs}
+use Rattle.msrp_report.proofs.Common.{AreActiveOf, CoreJobs}
 use Rattle.msrp_report.proofs.ActiveRows.{none_begun}
 use Rattle.msrp_report.proofs.tallies.active.none_active.Goals as goal
 

@@ -1,7 +1,6 @@
 use Rattle.std.proofs.Common.{◌≡◌, ◌≤◌}
 use Rattle.msrp_plan.proofs.Common.{ℕ, [], Some, length, slice_get, vec_capacity}
-use Rattle.msrp_report.specs.Inside.Tallies.{AreActiveOf}
-use Rattle.msrp_report.specs.declared.tallies.active.CoreJobs.{CoreJobs}
+use Rattle.msrp_report.proofs.Common.{AreActiveOf, CoreJobs}
 use Rattle.msrp_report.proofs.tallies.active.none_active.Given as goal
 
 abbrev pub invariant-loop : goal.invariant-loop

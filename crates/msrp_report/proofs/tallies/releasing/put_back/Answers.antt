@@ -1,6 +1,6 @@
 use Rattle.std.proofs.Common.{◌<◌, ◌≤◌}
 use Rattle.msrp_plan.proofs.Common.{ap, subst, sym, arith, get_or, slice_set, get_or_default, IsNonDecreasingBy, IsPermutation}
-use Rattle.msrp_report.specs.declared.tallies.NextRelease.{NextRelease}
+use Rattle.msrp_report.proofs.Common.{NextRelease}
 use Rattle.msrp_report.proofs.Releases.{put_rising, put_same, tick_of}
 use Rattle.msrp_report.proofs.tallies.releasing.put_back.Goals as goal
 use Rattle.msrp_report.proofs.tallies.releasing.put_back.Goals.{then-loop-place-test+else-releases-place, else-loop-place-test}

@@ -1,6 +1,6 @@
 use Rattle.std.proofs.Common.{◌<◌}
 use Rattle.msrp_plan.proofs.Common.{ℕ, get_or, length}
-use Rattle.msrp_report.specs.declared.tallies.NextRelease.{NextRelease}
+use Rattle.msrp_report.proofs.Common.{NextRelease}
 use Rattle.msrp_report.proofs.tallies.releasing.put_back.Given as goal
 
 abbrev pub invariant-loop-place : goal.invariant-loop-place

@@ -1,7 +1,6 @@
 use Rattle.std.proofs.Common.{◌≡◌, ◌<◌, ◌∙◌}
 use Rattle.msrp_plan.proofs.Common.{ℕ, true, ap, subst, arith, get_or, length, map, nat_lt, range_with_len, ltb-true, get_or-map-range_with_len, PlanModel, release, job_at, jobs_of, IsPlan, jobs_of_are}
-use Rattle.std.proofs.lemmas.List.Elements.{filter_passes}
-use Rattle.msrp_levels.proofs.PlanJobs.{job_in}
+use Rattle.msrp_report.proofs.Common.{filter_passes, job_in}
 use Rattle.msrp_report.proofs.JobTallies.{job_known}
 use Rattle.msrp_report.proofs.tallies.releasing.release_or_end.Goals as goal
 

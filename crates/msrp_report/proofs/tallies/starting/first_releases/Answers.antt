@@ -1,8 +1,6 @@
 use Rattle.std.proofs.Common.{◌≡◌, ◌+◌, ◌≤◌, ◌++◌, ◌∷◌, ◌∙◌}
 use Rattle.msrp_plan.proofs.Common.{[], rules, length, length-append, map, ap, sym, subst, arith, All, range_with_len, map-append, All-push}
-use Rattle.std.proofs.lemmas.List.Sorted.{IsNonDecreasingBy-from_sort, answers_always}
-use Rattle.msrp_report.specs.Inside.Tallies.{release_or_end}
-use Rattle.msrp_report.specs.declared.tallies.NextRelease.{NextRelease}
+use Rattle.msrp_report.proofs.Common.{IsNonDecreasingBy-from_sort, NextRelease, answers_always, release_or_end}
 use Rattle.msrp_report.proofs.LineJobs.{range_next}
 use Rattle.msrp_report.proofs.Releases.{task_of, tick_of}
 use Rattle.msrp_report.proofs.Starting.{releases_first}

@@ -1,6 +1,6 @@
 use Rattle.std.proofs.Common.{◌≡◌, ◌≤◌}
 use Rattle.msrp_plan.proofs.Common.{length, map, vec_capacity, All, range_with_len}
-use Rattle.msrp_report.specs.Inside.Tallies.{release_or_end}
+use Rattle.msrp_report.proofs.Common.{release_or_end}
 use Rattle.msrp_report.proofs.Releases.{task_of}
 use Rattle.msrp_report.proofs.tallies.starting.first_releases.Given as goal
 

@@ -1,6 +1,6 @@
 use Rattle.std.proofs.Common.{◌≡◌, ◌≤◌}
 use Rattle.msrp_plan.proofs.Common.{ℕ, Some, length, slice_get, vec_capacity}
-use Rattle.msrp_report.specs.declared.tallies.JobTally.{JobTally}
+use Rattle.msrp_report.proofs.Common.{JobTally}
 use Rattle.msrp_report.proofs.Starting.{untold}
 use Rattle.msrp_report.proofs.tallies.starting.untold.Given as goal
 

@@ -1,10 +1,6 @@
 use Rattle.std.proofs.Common.{◌≡◌, ◌<◌, ◌∙◌}
 use Rattle.msrp_plan.proofs.Common.{subst, sym, ap}
-use Rattle.msrp_plan.specs.declared.units.Call.TheVariants.{Ask}
-use Rattle.msrp_plan.specs.declared.units.Phase.TheVariants.{Free}
-use Rattle.msrp_board.specs.SeatPorts.{port_room}
-use Rattle.msrp_core.specs.Ports.{Adds, asked, claim_in}
-use Rattle.msrp_run.specs.Ports.{SeatPortModel, port_of}
+use Rattle.msrp_run.proofs.Common.{Adds, Ask, Free, SeatPortModel, asked, claim_in, port_of, port_room}
 use Rattle.msrp_run.proofs.Ports.{seat_acts, seat_adds}
 use Rattle.msrp_run.proofs.port.SeatPortPort.ask.Goals.{then-asked-eq0, else-asked-eq0}
 use Rattle.msrp_run.proofs.port.SeatPortPort.ask.Goals as goal

@@ -1,10 +1,6 @@
 use Rattle.std.proofs.Common.{◌≡◌, ◌<◌}
 use Rattle.msrp_plan.proofs.Common.{subst, sym}
-use Rattle.msrp_plan.specs.declared.units.Call.TheVariants.{Poll}
-use Rattle.msrp_plan.specs.declared.units.Phase.TheVariants.{Queued}
-use Rattle.msrp_board.specs.SeatPorts.{port_room}
-use Rattle.msrp_core.specs.Ports.{Adds, claim_in}
-use Rattle.msrp_run.specs.Ports.{SeatPortModel, port_of}
+use Rattle.msrp_run.proofs.Common.{Adds, Poll, Queued, SeatPortModel, claim_in, port_of, port_room}
 use Rattle.msrp_run.proofs.Ports.{seat_acts, seat_adds}
 use Rattle.msrp_run.proofs.port.SeatPortPort.poll.Goals as goal
 

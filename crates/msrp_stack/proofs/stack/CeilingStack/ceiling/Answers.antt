@@ -1,8 +1,6 @@
 use Rattle.std.proofs.Common.{◌≡◌}
 use Rattle.msrp_plan.proofs.Common.{reverse, subst}
-use Rattle.msrp_stack.specs.Stack.{current_ceiling, is_held}
-use Rattle.msrp_stack.specs.Layers.{layers_of}
-use Rattle.msrp_stack.specs.StackView.{started_of}
+use Rattle.msrp_stack.proofs.Common.{current_ceiling, is_held, layers_of, started_of}
 use Rattle.msrp_stack.proofs.Layers.{layers_ceiling, held_in_layers}
 use Rattle.msrp_stack.proofs.stack.CeilingStack.ceiling.Goals as goal
 

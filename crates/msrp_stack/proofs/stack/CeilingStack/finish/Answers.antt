@@ -1,6 +1,5 @@
 use Rattle.msrp_plan.proofs.Common.{subst, sym}
-use Rattle.msrp_stack.specs.Stack.{IsDone}
-use Rattle.msrp_stack.specs.StackView.{IsStack}
+use Rattle.msrp_stack.proofs.Common.{IsDone, IsStack}
 use Rattle.msrp_stack.proofs.Changes.{finish_keeps}
 use Rattle.msrp_stack.proofs.stack.CeilingStack.finish.Goals as goal
 

@@ -1,8 +1,6 @@
 use Rattle.std.proofs.Common.{◌≡◌, ◌-◌, ◌++◌, ◌∙◌}
 use Rattle.msrp_plan.proofs.Common.{slice_set, subst, sym, ap, refl, option_to_list}
-use Rattle.msrp_stack.specs.Stack.{SomeHeld, StackModel, without_held}
-use Rattle.msrp_stack.specs.StackView.{started_of, IsStack}
-use Rattle.msrp_stack.specs.declared.stack.Started.{Started}
+use Rattle.msrp_stack.proofs.Common.{IsStack, SomeHeld, StackModel, Started, started_of, without_held}
 use Rattle.msrp_stack.proofs.Changes.{give_back_keeps, some_items}
 use Rattle.msrp_stack.proofs.stack.CeilingStack.give_back.Goals as goal
 

@@ -1,7 +1,6 @@
 use Rattle.std.proofs.Common.{◌≡◌}
 use Rattle.msrp_plan.proofs.Common.{subst}
-use Rattle.msrp_stack.specs.Stack.{top, newest}
-use Rattle.msrp_stack.specs.StackView.{started_of}
+use Rattle.msrp_stack.proofs.Common.{newest, started_of, top}
 use Rattle.msrp_stack.proofs.Tops.{newest_first}
 use Rattle.msrp_stack.proofs.stack.CeilingStack.newest.Goals as goal
 

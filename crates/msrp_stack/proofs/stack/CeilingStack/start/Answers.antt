@@ -1,5 +1,5 @@
 use Rattle.msrp_plan.proofs.Common.{subst, sym}
-use Rattle.msrp_stack.specs.Stack.{CanStart}
+use Rattle.msrp_stack.proofs.Common.{CanStart}
 use Rattle.msrp_stack.proofs.Changes.{has_room}
 use Rattle.msrp_stack.proofs.stack.CeilingStack.start.Goals as goal
 

@@ -1,9 +1,6 @@
 use Rattle.std.proofs.Common.{◌≡◌, ◌-◌, ◌<◌, ◌∙◌}
 use Rattle.msrp_plan.proofs.Common.{length, slice_set, subst, sym, ap, refl, arith}
-use Rattle.msrp_stack.specs.Stack.{HasRoom, StackModel, with_held}
-use Rattle.msrp_stack.specs.StackView.{started_of, IsStack}
-use Rattle.msrp_stack.specs.declared.stack.Held.{Held}
-use Rattle.msrp_stack.specs.declared.stack.Started.{Started}
+use Rattle.msrp_stack.proofs.Common.{HasRoom, Held, IsStack, StackModel, Started, started_of, with_held}
 use Rattle.msrp_stack.proofs.Changes.{take_keeps, some_items}
 use Rattle.msrp_stack.proofs.stack.CeilingStack.take.Goals as goal
 

@@ -1,8 +1,6 @@
 use Rattle.std.proofs.Common.{◌+◌, ◌≤◌, ◌&&◌}
 use Rattle.msrp_plan.proofs.Common.{cond, Some, take, get_or, length, sym, subst, AllByRecursion, take_all, All-from_recursion, list_any_more, comes_first, is_before, same_job}
-use Rattle.msrp_plan.specs.declared.ids.JobId.{JobId}
-use Rattle.std.proofs.lemmas.List.Elements.{All-get_or}
-use Rattle.msrp_report.specs.Inside.Tallies.{IsFirstOf, IsKnown}
+use Rattle.msrp_report.proofs.Common.{All-get_or, IsFirstOf, IsKnown, JobId}
 use Rattle.msrp_report.proofs.Active.{first_is, first_none, first_step}
 use Rattle.msrp_report.proofs.tallies.active.CoreJobs.first_later.Goals as goal
 

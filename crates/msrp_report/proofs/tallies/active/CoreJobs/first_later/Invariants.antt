@@ -1,5 +1,5 @@
 use Rattle.msrp_plan.proofs.Common.{IfSome, take}
-use Rattle.msrp_report.specs.Inside.Tallies.{IsFirstOf, IsKnown}
+use Rattle.msrp_report.proofs.Common.{IsFirstOf, IsKnown}
 use Rattle.msrp_report.proofs.tallies.active.CoreJobs.first_later.Given as goal
 
 abbrev pub invariant-loop-other : goal.invariant-loop-other
