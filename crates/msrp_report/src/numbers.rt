@@ -4,7 +4,7 @@ ghost use Rattle.msrp_plan.specs.Common.{List, cond, nat_le, nat_lt, Contains, j
 ghost use Rattle.msrp_plan.specs.Limits.{most_ticks};
 ghost use Rattle.msrp_plan.specs.declared.rows.Row.{Row as TraceRow};
 ghost use Rattle.msrp_report.specs.Inside.Numbers.{numbers_of};
-ghost use Rattle.msrp_report.specs.Inside.Tallies.{HasTallied, ToldAll};
+ghost use Rattle.msrp_report.specs.Inside.Tallies.{HasTallied};
 
 use crate::tallies::Tallies;
 use msrp_plan::{JobId, JobKey, Plan};
@@ -48,7 +48,7 @@ fn response_of(finished: bool, key: JobKey, end: u64) -> u32
 pub(crate) fn job_numbers(plan: &Plan, tallies: &Tallies, job: JobId) -> JobNumbers
     requires plan { IsPlan plan.now }
     requires job { Contains (jobs plan.now) job }
-    requires told { ToldAll plan.now tallies.now }
+    requires told { (rows : List TraceRow) × HasTallied plan.now rows tallies.now }
     ensures numbers { (rows : List TraceRow) → HasTallied plan.now rows tallies.now → result ≡ numbers_of plan.now rows job }
     ensures spins { result.spins ≤ most_rows }
     ensures blocked { result.blocked ≤ most_rows }

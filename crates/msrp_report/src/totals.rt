@@ -3,7 +3,7 @@ ghost use Rattle.std.specs.Prelude.{◌≡◌, ◌<◌};
 ghost use Rattle.msrp_plan.specs.Common.{List, length, IsPlan};
 ghost use Rattle.msrp_plan.specs.declared.rows.Row.{Row as TraceRow};
 ghost use Rattle.msrp_report.specs.Lines.{line_of};
-ghost use Rattle.msrp_report.specs.Inside.Tallies.{HasTallied, ToldAll};
+ghost use Rattle.msrp_report.specs.Inside.Tallies.{HasTallied};
 ghost use Rattle.msrp_report.specs.Inside.Totals.{HasSpace, line_with};
 
 use crate::bounds::{blocked_bound_of, spin_bound_of};
@@ -37,7 +37,7 @@ pub(crate) fn task_line(plan: &Plan, levels: &Levels<'_>, tallies: &Tallies, tas
     requires plan { IsPlan plan.now }
     requires levels { levels.now ≡ plan.now }
     requires task { task.0 < length plan.now.tasks }
-    requires told { ToldAll plan.now tallies.now }
+    requires told { (rows : List TraceRow) × HasTallied plan.now rows tallies.now }
     ensures { (rows : List TraceRow) → HasTallied plan.now rows tallies.now → result ≡ line_of plan.now rows task.0 }
 {
     let jobs = plan.jobs(task);

@@ -1,6 +1,6 @@
 -- A worker's steps: its core is let in, has its turn and arrives, or is told to stop.
 use Rattle.std.proofs.Common.{◌≡◌, ◌+◌, ◌≤◌, ◌&&◌, ◌∷◌, ◌++◌, ◌∙◌}
-use Rattle.msrp_plan.proofs.Common.{ℕ, suc, List, [], Bool, true, false, nat_lt, refl, sym, ap, subst, arith, inl, inr, length-append, length, list_all-append, ltb-false, PlanModel, carries_its_ahead, carries_ahead, CoreRun}
+use Rattle.msrp_plan.proofs.Common.{ℕ, suc, List, [], Bool, true, false, nat_lt, refl, sym, ap, subst, arith, inl, inr, length-append, length-map, length, list_all-append, ltb-false, PlanModel, carries_its_ahead, carries_ahead, CoreRun}
 use Rattle.msrp_run.proofs.Common.{Admitted, BoardModel, BoardSize, Book, Done, Entry, Fits, HasTurned, HasWorked, IsAtWork, IsCoreSeat, IsOneStep, IsSeat, LogModel, MachineModel, MayTurn, NoStep, OneStep, Row, SeatModel, SeatPhase, StandsAfter, Turn, Waiting, admissions_of, book_with_admission, book_with_arrival, book_with_stop, core_changed, core_with, lock_of, not_acted, phase_by, phase_in, rows_of, size_of, waiting_book, with_admission, with_arrival, with_stop}
 use Rattle.msrp_merge.proofs.Fitting.{fits_quiet, fits_step}
 use Rattle.msrp_run.proofs.OneTurn.{rows_longer, run_longer}
@@ -159,10 +159,6 @@ none_left false true left e = absurd (cc)
 none_left false false true e = absurd (cc)
 none_left false false false e = refl
 
-length_rows : (turns : List Turn) → length (rows_of turns) ≡ length turns
-length_rows [] = refl
-length_rows (x ∷ turns) = ap suc (length_rows turns)
-
 -- or it has arrived from the last one
 pub has_done : (board : BoardModel) (plan : PlanModel) (c : ℕ) (m : MachineModel) (log : LogModel) (seat : SeatModel) (phase : SeatPhase) → (a : HasArrived board plan c m log seat) → ((d : ℕ) (b : Book) → IsCoreSeat seat d b → phase ≡ phase_in seat.board.size.ticks b) → IsSeat seat → phase ≡ Done
     → HasWorked board plan c log seat
@@ -185,5 +181,5 @@ has_done board plan c m log seat phase a reads kept is = record {
         let within : admissions_of false a.book.tick ≤ seat.board.size.ticks = subst (λ x. admissions_of x a.book.tick ≤ seat.board.size.ticks) a.out (kept.kept c a.book a.of_core.book).within in
         let b = a.tick in
         let e = a.stands.tick in
-        let f = length_rows log.turns in
+        let f = length-map log.turns (λ (x : Turn). x.row) in
         omega (arith, over, within, ticks, b, e, f)

@@ -31,15 +31,8 @@ fn turn_through<B: FirstSeat>(
     prove!(left);
     let mut port = SeatPort::<B>::new(board, machine.core(), seat);
     let row = machine.turn(&mut port);
-    let SeatPort {
-        board: _,
-        core: _,
-        seat: back,
-        place,
-        first: _,
-    } = port;
-    log.push(row, place);
-    (row, back)
+    log.push(row, port.place);
+    (row, port.seat)
 }
 
 /// One core's turn on a board: the machine makes the row, and the board answers a call. The row is

@@ -177,10 +177,6 @@ is_due begun (r ∷ rs) = nat_le r.tick begun
 abbrev pub due_count : Tallies → ℕ
 due_count t = count_by (λ r. nat_le r.tick t.begun) t.releases.items
 
--- the tallies are those of some rows
-abbrev pub ReleasesNext : PlanModel → Tallies → Type 0
-ReleasesNext plan t = (rows : List Row) × HasReleased plan rows t
-
 -- ---- one row more
 -- the row follows these rows, in the tick begun last
 pub record IsNextOf (plan : PlanModel) (rows : List Row) (r : Row) (begun : ℕ) : Type 0 where
@@ -196,10 +192,3 @@ pub record CountsAs (plan : PlanModel) (j : JobId) (at : ℕ) (k : Kind) (r : Ro
   pub tick : r.tick ≡ at
   pub kind : r.kind ≡ k
   pub counts : Counts plan r t
-
-abbrev pub GoesOn : PlanModel → Row → Tallies → Type 0
-GoesOn plan r t = (rows : List Row) × HasTallied plan rows t × IsRunStart plan (rows ++ r ∷ [])
-
--- the tallies include all rows
-abbrev pub ToldAll : PlanModel → Tallies → Type 0
-ToldAll plan t = (rows : List Row) × HasTallied plan rows t

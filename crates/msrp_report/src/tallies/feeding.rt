@@ -2,7 +2,7 @@
 ghost use Rattle.std.specs.Prelude.{◌≡◌, ◌+◌, ◌++◌, ◌∷◌};
 ghost use Rattle.msrp_plan.specs.Common.{[], ℕ, List, Some, false, not, is_started, PlanModel, IsRunStart, IsPlan};
 ghost use Rattle.msrp_plan.specs.declared.rows.Row.{Row as TraceRow};
-ghost use Rattle.msrp_report.specs.Inside.Tallies.{AreActive, AreReleases, AreTallies, Counts, CountsAs, GoesOn, HasTallied, IsNextOf, ToldOf};
+ghost use Rattle.msrp_report.specs.Inside.Tallies.{AreActive, AreReleases, AreTallies, Counts, CountsAs, HasTallied, IsNextOf, ToldOf};
 
 use super::{Blocking, Tallies};
 use msrp_plan::{JobId, Kind, Plan, Row};
@@ -68,7 +68,7 @@ impl Tallies {
     #[inline(always)]
     pub(crate) fn reach(&mut self, plan: &Plan, tick: u32)
         requires plan { IsPlan plan.now }
-        requires told { (row : TraceRow) × GoesOn plan.now row self.old × (row.tick ≡ tick) }
+        requires told { (row : TraceRow) × ((rows : List TraceRow) × HasTallied plan.now rows self.old × IsRunStart plan.now (rows ++ row ∷ [])) × (row.tick ≡ tick) }
         ensures begun { self.new.begun ≡ tick + 1 }
         ensures told { (rows : List TraceRow) (row : TraceRow) → HasTallied plan.now rows self.old → IsRunStart plan.now (rows ++ row ∷ []) → row.tick ≡ tick → HasTallied plan.now rows self.new }
     {
@@ -82,7 +82,7 @@ impl Tallies {
     #[inline(always)]
     pub(crate) fn feed(&mut self, plan: &Plan, row: Row)
         requires plan { IsPlan plan.now }
-        requires told { GoesOn plan.now row self.old }
+        requires told { (rows : List TraceRow) × HasTallied plan.now rows self.old × IsRunStart plan.now (rows ++ row ∷ []) }
         requires begun { self.old.begun ≡ row.tick + 1 }
         ensures begun { self.new.begun ≡ self.old.begun }
         ensures told { (rows : List TraceRow) → HasTallied plan.now rows self.old → IsRunStart plan.now (rows ++ row ∷ []) → HasTallied plan.now (rows ++ row ∷ []) self.new }

@@ -3,7 +3,7 @@
 ghost use Rattle.std.specs.Prelude.{◌≡◌, ◌<◌, ◌+◌};
 ghost use Rattle.msrp_plan.specs.Common.{ℕ, List, true, length, slice_set, Contains, IsNonDecreasingBy, IsPermutation, first_later, jobs, jobs_of, IsPlan};
 ghost use Rattle.msrp_plan.specs.declared.rows.Row.{Row as TraceRow};
-ghost use Rattle.msrp_report.specs.Inside.Tallies.{AreActive, AreReleases, AreTallies, HasReleased, ReleasesNext, ToldBy, blocking_by, due_count, is_due, release_or_end};
+ghost use Rattle.msrp_report.specs.Inside.Tallies.{AreActive, AreReleases, AreTallies, HasReleased, ToldBy, blocking_by, due_count, is_due, release_or_end};
 
 use super::{Blocking, NextRelease, Tallies};
 use msrp_plan::{JobId, Plan};
@@ -72,7 +72,7 @@ impl Tallies {
     #[inline(never)]
     fn release(&mut self, plan: &Plan)
         requires plan { IsPlan plan.now }
-        requires told { ReleasesNext plan.now self.old }
+        requires told { (rows : List TraceRow) × HasReleased plan.now rows self.old }
         requires due { is_due self.old.begun self.old.releases.items ≡ true }
         requires left { self.old.begun < plan.now.ticks }
         ensures begun { self.new.begun ≡ self.old.begun }
@@ -98,7 +98,7 @@ impl Tallies {
     #[inline(always)]
     pub(super) fn begin(&mut self, plan: &Plan)
         requires plan { IsPlan plan.now }
-        requires told { ReleasesNext plan.now self.old }
+        requires told { (rows : List TraceRow) × HasReleased plan.now rows self.old }
         requires left { self.old.begun < plan.now.ticks }
         ensures begun { self.new.begun ≡ self.old.begun + 1 }
         ensures told { (rows : List TraceRow) → HasReleased plan.now rows self.old → AreTallies plan.now rows (λ _. self.new.begun) self.new.tasks.items }
