@@ -239,7 +239,9 @@ def pictures(browser, name, path, facts):
     words = Words(facts)
     browser.open(path)
     browser.value("byId('hide').checked = true")
-    last = max(5, *(life[2] for life in facts.all))  # at the right edge: a lane may be in sight by an arrow alone
+    # A release right at the edge: by its arrow alone a lane is in sight.
+    over = lambda life: all(max(one[3:5]) < life[2] - 5 for one in facts.all if one[0] == life[0] and one[1] < life[1])
+    last = max((life[2] for life in facts.all if life[2] >= 5 and over(life)), default=5)
     for start, end in ((0, words.ticks), (words.ticks / 4, words.ticks / 2 + 4), (words.ticks - 5.5, words.ticks), (1.25, 5.25), (last - 5, last)):
         drawn(browser, name, words, start, end, None)
         for number, lane in enumerate(words.lanes):

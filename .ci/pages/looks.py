@@ -89,8 +89,23 @@ def texts(browser, page, path, facts):
 
 # ---- lanes
 
+# Whether each bar of the report, up and down, brings its lane into sight, below the axis.
+BARS = """(() => {
+  const bars = [...document.querySelectorAll('#report .bar:not(:disabled)')];
+  return [...bars, ...bars.slice().reverse()].map((bar) => {
+    bar.click();
+    const [{ top, height }, scrolled] = [state.cursor.lane, byId('lanes').scrollTop];
+    return AXIS <= top - scrolled && top - scrolled + height <= state.height;
+  });
+})()"""
+
+
 def lanes(browser, path, facts):
     """Lanes without a job in sight are left out; names and axis stay in sight; the map leads to a place."""
+    size(browser, 1280, 250)
+    browser.open(path)
+    seen = browser.value(BARS)
+    judge(len(seen) > 8 and all(seen), f"lanes of bars in sight: {seen}")
     size(browser, 1280, 500)
     browser.open(path)
     browser.value("document.getElementById('join').click()")
@@ -208,7 +223,7 @@ def paper(browser, path, facts):
     media(browser, dark=True)
     size(browser, 1280, 500)
     browser.open(path)
-    names = len(browser.value(NAMES))
+    names, opened = len(browser.value(NAMES)), browser.value("byId('reasons').open")
     rows = 1 + min(len(facts.legal), 240 // facts.plan.cores * facts.plan.cores)
     before = browser.value("document.documentElement.outerHTML.length")
     browser.value(f"addEventListener('beforeprint', () => {{ window.printed = {PAPER}; }})")
@@ -220,6 +235,7 @@ def paper(browser, path, facts):
     media(browser, dark=True)
     judge(not browser.value("document.getElementById('rows').open") and browser.value("getComputedStyle(document.body).backgroundColor") != "rgb(255, 255, 255)", "paper: then as before")
     judge(not browser.errors and before > 0, f"paper: console {browser.errors[:2]}")
+    judge(browser.value("byId('reasons').open") == opened, "paper: then the reasons as before")
     media(browser)
     size(browser, 1400, 1500)
 
