@@ -1,8 +1,7 @@
 //! The exporter: it takes rows, and writes their text.
 ghost use Rattle.std.specs.Prelude.{◌≡◌, ◌<◌, ◌+◌, ◌++◌, ◌∷◌, ◌^◌};
 ghost use Rattle.msrp_plan.specs.Common.{[], List, length, WroteSome};
-ghost use Rattle.msrp_plan.specs.declared.rows.Row.{Row as TraceRow};
-ghost use Rattle.msrp_export.specs.Signals.{HasTaken};
+ghost use Rattle.msrp_export.specs.Signals.{Row as TraceRow, HasTaken};
 
 use crate::formats::Format;
 use crate::signals::Signals;
@@ -101,7 +100,7 @@ impl<'a> Exporter<'a> {
         write_end(&mut self.text, self.format, &self.signals, next(tick))
     }
 
-    /// Writes the rule that is violated after the rows, and the row that violates it; none where a
+    /// Writes the rule that is violated after the rows, and the row that violates it; none if a
     /// row is missing. The export ends with it.
     pub fn fault<W: Write>(
         &mut self,

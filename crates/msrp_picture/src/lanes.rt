@@ -1,12 +1,11 @@
-//! What the lanes of a picture show beside rows: critical sections, the ceilings of cores, and the
-//! queues of global resources.
+//! What the lanes of a picture show in addition to rows: critical sections, the ceilings of cores,
+//! and the queues of global resources.
 ghost use Rattle.std.specs.Prelude.{◌≡◌, ◌∷◌, ◌++◌, ◌<◌, ◌-◌, ◌^◌, filter_map, option_copied};
 ghost use Rattle.msrp_plan.specs.Common.{ℕ, [], List, IfOk, OnOk, cons_option, find};
 ghost use Rattle.msrp_plan.specs.Requests.{HasTaken};
 ghost use Rattle.msrp_plan.specs.declared.rows.Row.{Row as TraceRow};
 ghost use Rattle.msrp_audit.specs.Audits.{HasFed};
-ghost use Rattle.msrp_picture.specs.Lanes.{ceiling_after, ceiling_tick, ceilings, ends_section, first_of, first_section, gets, gives_back, queue_ticks, section_end, sections};
-ghost use Rattle.msrp_picture.specs.Blocks.{merged};
+ghost use Rattle.msrp_picture.specs.Blocks.{ceiling_after, ceiling_tick, ceilings, ends_section, first_of, first_section, gets, gives_back, merged, queue_ticks, section_end, sections};
 ghost use Rattle.msrp_picture.specs.Rows.{rows_in};
 
 use crate::Added;
@@ -96,14 +95,20 @@ fn push_ceiling(all: &mut Vec<(Row, u32)>, auditor: &mut Auditor<'_>, row: &Row)
     Ok(())
 }
 
-/// The rows, each with the ceiling of its core after it.
-pub(crate) fn ceilings_of(scene: &Scene<'_>) -> Result<Vec<(Row, u32)>, Memory>
-    ensures { IfOk result (λ all. all.items ≡ ceilings scene.now.plan.now [] scene.now.rows.now) }
+/// Feeds the legal rows, and answers them, each with the ceiling of its core after it.
+pub(crate) fn ceilings_of(
+    scene: &Scene<'_>,
+    auditor: &mut Auditor<'_>,
+) -> Result<Vec<(Row, u32)>, Memory>
+    requires plan { auditor.old.plan ≡ scene.now.plan.now }
+    requires fed { HasFed auditor.old [] }
+    ensures plan { auditor.new.plan ≡ scene.now.plan.now }
+    ensures fed { OnOk result (HasFed auditor.new scene.now.rows.now) }
+    ensures all { IfOk result (λ all. all.items ≡ ceilings scene.now.plan.now [] scene.now.rows.now) }
 {
-    let mut auditor = Auditor::with_room(scene.alloc, scene.plan, scene.levels)?;
     let mut all = Vec::new(scene.alloc);
     for row in scene.rows {
-        push_ceiling(&mut all, &mut auditor, row)?;
+        push_ceiling(&mut all, auditor, row)?;
     }
     Ok(all)
 }

@@ -1,7 +1,7 @@
 //! The life of a job: its release, its absolute deadline, and its completion.
 ghost use Rattle.std.specs.Prelude.{◌≡◌, ◌<◌, ◌++◌};
 ghost use Rattle.msrp_plan.specs.Common.{length, IfOk, IsSome, OnOk, done, is_row_of, release_tick};
-ghost use Rattle.msrp_picture.specs.Lives.{after_last, event_of, life_block, life_of, lives, task_lives};
+ghost use Rattle.msrp_picture.specs.Shapes.{after_last, event_of, life_block, life_of, lives, task_lives};
 ghost use Rattle.msrp_picture.specs.Rows.{task_rows};
 
 use crate::Added;
@@ -9,8 +9,8 @@ use crate::scene::Scene;
 use crate::shapes::{Block, Event, Lane, Look, Moment, lasting};
 use msrp_plan::{JobId, Kind, Memory, Row, TaskId};
 
-/// When a job is released, has its absolute deadline, and completes. A job that isn't finished lasts to the end of the
-/// legal rows.
+/// When a job is released, has its absolute deadline, and completes. A job that isn't finished
+/// lasts to the end of the legal rows.
 #[derive(Clone, Copy, Debug, PartialEq, Eq)]
 pub struct Life {
     pub job: JobId,

@@ -36,7 +36,7 @@ Tells (Ok verdict) old new result = result ≡ answered (answer_to (Ok verdict))
 Tells (Err fault) old new result = Refuses fault old new result
 
 -- ---- pictures
--- all rows that are told, or the refusal behind them
+-- all rows of the trace, or the refusal after them
 abbrev pub rows_or : List Row → Option TraceError → Result (List Row) CliFault
 rows_or rows None = Ok rows
 rows_or rows (Some error) = Err (trace_fault_of error)
@@ -53,13 +53,12 @@ abbrev pub verdict_on : PlanModel → Result (List Row) CliFault → Result (Res
 verdict_on plan (Ok rows) = Ok (answer_of (verdict plan rows))
 verdict_on plan (Err fault) = Err fault
 
--- it is wrong usage where the plan doesn't have such ticks
+-- it is wrong usage if the plan doesn't have these ticks
 abbrev pub found_within : PlanModel → Told → Option Window → Result (Result ⊤ Fault) CliFault
 found_within plan told (Some window) = verdict_on plan (rows_read told)
 found_within plan told None = Err cli.Usage
 
--- what is found in a text that stands for a plan, or in one that is refused, and in the records of
--- a trace's text
+-- what is found in the text of an accepted or a refused plan, and in a trace's records
 abbrev pub picture_found : Result PlanModel TextError → List (List (List ℕ)) → Asked → Result (Result ⊤ Fault) CliFault
 picture_found (Ok plan) records asked = found_within plan (rows_of plan records) (window_of plan asked)
 picture_found (Err error) records asked = Err (fault_of error)
@@ -73,8 +72,7 @@ abbrev pub ViewAnswers : {W : Type 0} → Result PlanModel TextError → List (L
 ViewAnswers plan records asked old new result = Tells (picture_found plan records asked) old new result
 
 -- ---- pages
--- what is found in a text that stands for a plan, or in one that is refused, and in the records of
--- a trace's text
+-- what is found in the text of an accepted or a refused plan, and in a trace's records
 abbrev pub page_found : Result PlanModel TextError → List (List (List ℕ)) → Result (Result ⊤ Fault) CliFault
 page_found (Ok plan) records = verdict_on plan (rows_read (rows_of plan records))
 page_found (Err error) records = Err (fault_of error)
@@ -84,12 +82,12 @@ abbrev pub PageAnswers : {W : Type 0} → Result PlanModel TextError → List (L
 PageAnswers plan records old new result = Tells (page_found plan records) old new result
 
 -- ---- exports
--- the answer where that is found: the status of a verdict if the sink took all, and a refusal in any case
+-- the status of a verdict if the sink took all, and a refusal in any case
 abbrev pub export_answer : {W : Type 0} → Result (Result ⊤ Fault) CliFault → Sink W → Result ℕ CliFault
 export_answer (Ok verdict) new = answered (answer_to (Ok verdict)) new
 export_answer (Err fault) new = Err fault
 
--- the answer to a text that stands for a plan, or to one that is refused, and to the records of a trace's text
+-- the answer to the text of an accepted or a refused plan, and to a trace's records
 abbrev pub ExportAnswers : {W : Type 0} → Result PlanModel TextError → List (List (List ℕ)) → Sink W → Sink W → Result ℕ CliFault → Type 0
 ExportAnswers (Ok plan) records old new result = result ≡ export_answer (finding plan (rows_of plan records)) new
 ExportAnswers (Err error) records old new result = Refuses (fault_of error) old new result

@@ -1,4 +1,4 @@
--- Why a trace is no legal run: what is found, and what it rests on.
+-- Why a trace is not legal: what is found, and what it rests on.
 use Rattle.std.specs.Prelude.{◌≡◌, ◌⊎◌, ◌+◌}
 use Rattle.msrp_plan.specs.Common.{ℕ, List, Option, Some, Ok, Err, IfOk, IfSome, IsOkAnd, ⊤, Result, PlanModel, Wrote}
 use Rattle.msrp_plan.specs.declared.bytes.Sink.{Sink}
@@ -20,22 +20,23 @@ use Rattle.msrp_view_engine.specs.Answers.{BeginsWith, Refuses, answer_to}
 use Rattle.msrp_view_engine.specs.declared.why.Judged.{Judged}
 use Rattle.msrp_view_engine.specs.declared.words.Words.{Words}
 
--- what an audit of these rows finds, with the cause; or the refusal behind them, but for a read that failed and for memory
+-- what an audit of these rows finds, with the cause; or the refusal after them, a failed read or
+-- a failed allocation
 abbrev pub IsJudged : PlanModel → Told → Result Judged TraceError → Type 0
 IsJudged plan told (Ok judged) = (finding plan told ≡ Ok judged.verdict) × IsGroundOf plan told.rows judged.verdict judged.ground
 IsJudged plan told (Err error) = (error ≡ Read) ⊎ (error ≡ Memory) ⊎ ((finding plan told ≡ Err (trace_fault_of error)) × (told.refusal ≡ Some error))
 
--- where a line is told of the row that is refused, its record begins in it; the record before that of the first row is the head
+-- if the line of a refused row is known, its record begins in it; the head is the first record
 abbrev pub BeginsRow : List ℕ → Ground → Type 0
 BeginsRow bytes (AtRow cause) = IfSome cause.line (BeginsIn bytes (cause.fault.row + 1))
 BeginsRow bytes (End notes) = ⊤
 
--- where a line is told of a record that is refused, it begins in it
+-- if the line of a refused record is known, it begins in it
 abbrev pub BeginsRefused : List ℕ → TraceError → Option ℕ → Type 0
 BeginsRefused bytes (At fault number) line = IfSome line (BeginsIn bytes number)
 BeginsRefused bytes _ line = ⊤
 
--- the words on a text that stands for a plan, or on one that is refused, and on the records of a trace's text
+-- the words on the text of an accepted or a refused plan, and on a trace's records
 abbrev pub IsExplainedOf : Result PlanModel TextError → List (List (List ℕ)) → Result Words CliFault → Type 0
 IsExplainedOf (Ok plan) records answer = IsOkAnd answer (λ words. words.found ≡ finding plan (rows_of plan records))
 IsExplainedOf (Err error) records answer = answer ≡ Err (fault_of error)

@@ -67,7 +67,8 @@ fn export_rows<T: Read, W: Write>(
     }
 }
 
-// Writes the rows of a trace's text, and what is found in them. Whatever ends the reading early may be told as a failed read.
+// Writes the rows of a trace's text, and what is found in them. What ends the reading early may be
+// reported as a failed read.
 #[tactic(auto, using(crate::proofs::Answering::writes))]
 fn export_all<T: Read, W: Write>(
     alloc: Global,
@@ -89,7 +90,8 @@ fn export_all<T: Read, W: Write>(
     found
 }
 
-// Writes a trace of an accepted plan, and answers the status of its verdict. Whatever ends the reading early may be told as a failed read.
+// Writes a trace of an accepted plan, and answers the status of its verdict. What ends the reading
+// early may be reported as a failed read.
 fn export_plan<T: Read, W: Write>(
     alloc: Global,
     plan: &Plan,
@@ -106,12 +108,12 @@ fn export_plan<T: Read, W: Write>(
     answer_to(Ok(found))
 }
 
-/// Reads a plan and a trace of it, whoever made it, and writes the trace in a format: all of a
-/// legal run, and else the rows before the first that violates a rule, and the fault. The answer is
-/// the exit status of an audit, 0 or 1.
+/// Reads a plan and a trace from any source, and writes the trace in a format: all of a legal run,
+/// or else the rows before the first that violates a rule, and the fault. The answer is the exit
+/// status of an audit, 0 or 1.
 ///
-/// The rows are judged and written as they come. So where a record of the trace is refused, or a
-/// read fails, the rows before it may have been written. Of a refused plan nothing is.
+/// Each row is judged and written as it is read. So if a record of the trace is refused, or a read
+/// fails, the rows before it may have been written. Of a refused plan nothing is.
 #[tactic(auto, using(crate::proofs::Answering::writes))]
 pub fn export_text<P: Read, T: Read, W: Write>(
     alloc: Global,

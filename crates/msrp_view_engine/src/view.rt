@@ -33,7 +33,7 @@ struct Gathered {
     lines: Vec<(u32, u64)>,
 }
 
-// Notes the line of a row if it isn't the expected one, and answers the one that is expected next.
+// Notes the line of a row if it isn't the expected one, and answers the line expected next.
 fn note_line(
     lines: &mut Vec<(u32, u64)>,
     row: u32,
@@ -69,7 +69,7 @@ fn gather_rows<T: Read>(
     Err(CliFault::Memory)
 }
 
-// All rows of a trace's text. Whatever ends the reading early may be told as a failed read.
+// All rows of a trace's text. What ends the reading early may be reported as a failed read.
 fn gather<T: Read>(alloc: Global, plan: &Plan, trace: &mut Source<T>) -> Result<Gathered, CliFault>
     ensures rows { OfText T.remaining trace.old result (λ records. rows_in result ≡ rows_read (rows_of plan.now records)) }
     ensures faults { IfErr result (λ fault. is_trace_fault fault ≡ true) }
@@ -108,7 +108,8 @@ fn picture_of<T: Read>(
     Ok(Made { text, found })
 }
 
-/// The picture of a trace of a plan, whoever made it, with the verdict on its rows, as [`view_text`] writes it.
+/// The picture of a trace from any source, with the verdict on its rows, as [`view_text`] writes
+/// it.
 pub fn picture_of_texts<P: Read, T: Read>(
     alloc: Global,
     plan: &mut Source<P>,
@@ -125,10 +126,10 @@ pub fn picture_of_texts<P: Read, T: Read>(
     settled(made, trace)
 }
 
-/// Reads a plan and a trace of it, whoever made it, and writes a picture of the ticks that are
-/// asked for. The answer is the exit status of an audit: 0 for a legal run, and 1 else; then the
-/// picture shows the rows before the first that violates a rule, and that one, and in SVG also what
-/// follows it. It is [`CliFault::Usage`] where the plan doesn't have such ticks.
+/// Reads a plan and a trace from any source, and writes a picture of the ticks that are asked for.
+/// The answer is the exit status of an audit: 0 for a legal run, and 1 else; then the picture shows
+/// the rows before the first that violates a rule, and that one, and in SVG also what follows it.
+/// It is [`CliFault::Usage`] if the plan doesn't have these ticks.
 ///
 /// All memory is taken before anything is written. A trace of which a record is refused isn't
 /// drawn.
@@ -166,7 +167,7 @@ fn page_of_text(
     Ok(Made { text, found })
 }
 
-// The page of a trace that is read. Whatever ends the reading early may be told as a failed read.
+// The page of a trace that is read. What ends the reading early may be reported as a failed read.
 fn page_of<T: Read>(
     alloc: Global,
     plan: &Plan,
@@ -196,12 +197,12 @@ fn page_of_texts<P: Read, T: Read>(
     settled(made, trace)
 }
 
-/// Reads a plan and a trace of it, whoever made it, and writes a page for a browser: the verdict
-/// with its reasons, the whole trace as a timeline, and the report of its legal rows. The answer is
-/// the exit status of an audit.
+/// Reads a plan and a trace from any source, and writes a page for a browser: the verdict with its
+/// reasons, the whole trace as a timeline, and the report of its legal rows. The answer is the exit
+/// status of an audit.
 ///
-/// All memory is taken before anything is written: so whatever the fault, but a write fault,
-/// nothing was written. A trace of which a record is refused has no page.
+/// All memory is taken before anything is written: after any fault but a failed write, nothing was
+/// written. A trace of which a record is refused has no page.
 #[tactic(auto, using(crate::proofs::Answering::writes))]
 pub fn page_text<P: Read, T: Read, W: Write>(
     alloc: Global,

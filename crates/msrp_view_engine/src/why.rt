@@ -1,4 +1,5 @@
-//! Why a trace is no legal run: the verdict, the row that violates a rule, and the row expected in its place.
+//! Why a trace is not legal: the verdict, the row that violates a rule, and the one expected in its
+//! place.
 ghost use Rattle.std.specs.Prelude.{◌≡◌, ◌⊎◌, ◌+◌};
 ghost use Rattle.msrp_plan.specs.Common.{ℕ, List, [], true, Ok, Some, None, Err, IfOk, IfErr, IfSome, IsOkAnd, WroteSome};
 ghost use Rattle.msrp_audit.specs.Audits.{HasFed};
@@ -35,7 +36,8 @@ struct Judged {
     ground: Ground,
 }
 
-// The line in which the record of a faulty row begins, where it is known. The record before that of the first row is the head.
+// The line in which the record of a faulty row begins, if it is known. The first record is the
+// head.
 fn line_of_row<T: Read>(reader: &TraceReader<'_, T>, fault: Fault) -> Option<u64>
     ensures { (bytes : List ℕ) → HasReadIn T.remaining bytes reader.now → IfSome result (BeginsIn bytes (fault.row + 1)) }
 {
@@ -43,7 +45,7 @@ fn line_of_row<T: Read>(reader: &TraceReader<'_, T>, fault: Fault) -> Option<u64
     reader.line_of(number)
 }
 
-// The line in which the record begins that a reader has refused, where it is known.
+// The line in which a refused record begins, if it is known.
 fn line_of_refused<T: Read>(reader: &TraceReader<'_, T>, error: TraceError) -> Option<u64>
     ensures { (bytes : List ℕ) → HasReadBehind T.remaining bytes (Err error) reader.now → BeginsRefused bytes error result }
 {
@@ -106,8 +108,8 @@ fn words_with<T: Display>(
     })
 }
 
-/// The words on the fault of a row that was fed to this auditor. They are told without what the
-/// rows before it left.
+/// The words on the fault of a row that was fed to this auditor, without what the rows before it
+/// left.
 pub fn why_of_row(
     alloc: Global,
     plan: &Plan,
@@ -128,7 +130,7 @@ pub fn why_of_row(
     words_with(alloc, Err(fault), &Why::new(plan, levels, None, &cause))
 }
 
-/// The words on a row that was fed and is none of the plan, by the number after R of its code.
+/// The words on a fed row that is not one of the plan, by the number after R of its code.
 pub fn why_of_refused_row(alloc: Global, code: u32, number: u32) -> Result<Words, CliFault>
     ensures found { IfOk result (λ words. words.found ≡ Err (CliFault.Trace code number)) }
     ensures memory { IfErr result (λ fault. fault ≡ CliFault.Memory) }
@@ -198,7 +200,7 @@ fn explain_rows<T: Read>(
     }
 }
 
-/// The words on a trace of an accepted plan. Whatever ends the reading early may be told as a
+/// The words on a trace of an accepted plan. What ends the reading early may be reported as a
 /// failed read.
 pub(crate) fn explain_all<T: Read>(
     alloc: Global,
@@ -239,7 +241,7 @@ fn explain<P: Read, T: Read>(
     settled(words, trace)
 }
 
-/// The verdict on a trace of a plan, whoever made it, and the words on it, as [`why_text`] writes them.
+/// The verdict on a trace from any source, and the words on it, as [`why_text`] writes them.
 pub fn why_of_texts<P: Read, T: Read>(
     alloc: Global,
     plan: &mut Source<P>,
@@ -258,13 +260,13 @@ pub fn why_of_texts<P: Read, T: Read>(
     }
 }
 
-/// Reads a plan and a trace of it, whoever made it, and writes the verdict as an audit does, and
-/// behind it what makes it so: the first row that violates a rule, the rule, the row expected in
-/// its place, and the facts that the rule needs; of a legal trace, what its run exercised. The
-/// answer is the exit status, 0 or 1. Of a refused record it writes what is wrong and the record as
-/// it stands; the answer is the refusal.
+/// Reads a plan and a trace from any source, and writes the verdict as an audit does, and then its
+/// reasons: the first row that violates a rule, the rule, the row expected in its place, and the
+/// facts that the rule needs; of a legal trace, what its run exercised. The answer is the exit
+/// status, 0 or 1. Of a refused record it writes what is wrong, and the record itself; the answer
+/// is the refusal.
 ///
-/// The rows are judged as they come, and one is kept at a time. All memory is taken before anything
+/// Each row is judged as it is read, and one is kept at a time. All memory is taken before anything
 /// is written. Of a refused plan nothing is.
 #[tactic(auto, using(crate::proofs::Answering::writes))]
 pub fn why_text<P: Read, T: Read, W: Write>(

@@ -135,10 +135,11 @@ pub fn why_of_plan<P: Read>(
     }
 }
 
-/// Reads a plan of that name, and writes what is wrong with it or odd in it, as [`RefusedPlan`] and [`AcceptedPlan`] say it. The
-/// answer to a refused plan is its refusal, as every engine gives it.
+/// Reads a plan of that name, and writes what is wrong with it or odd in it, as [`RefusedPlan`] and
+/// [`AcceptedPlan`] say it. The answer to a refused plan is its refusal, as every engine gives it.
 ///
-/// All memory is taken before anything is written: so whatever the fault, but a refusal or a write fault, nothing was written.
+/// All memory is taken before anything is written: after any fault but a refusal or a failed write,
+/// nothing was written.
 #[tactic(auto, using(crate::proofs::Answering::writes))]
 pub fn why_plan_text<P: Read, W: Write>(
     alloc: Global,

@@ -2,8 +2,8 @@
 //! that decide it.
 //!
 //! [`Notes`] are kept row by row while an auditor judges a trace; [`cause_of`] makes the cause of a
-//! fault of them. What a cause holds is proved. The words ([`Why`], [`Ended`], [`RefusedRecord`]) are
-//! tested. [`laws`] are theorems about what is noted.
+//! fault of them. What a cause holds is proved. The words ([`Why`], [`Ended`], [`RefusedRecord`])
+//! are tested. [`laws`] are theorems about what is noted.
 #![tactic(auto)]
 
 mod causes;
