@@ -1,4 +1,4 @@
-use Rattle.std.proofs.Common.{◌≡◌, ◌+◌, ◌++◌, ◌∙◌}
+use Rattle.std.proofs.Common.{◌+◌, ◌++◌, ◌∙◌}
 use Rattle.msrp_plan.proofs.Common.{ap, inl, length, sym}
 use Rattle.msrp_text.specs.Records.{ahead_at}
 use Rattle.msrp_text.proofs.Fronts.{begins-taken, front-behind, line-fed}
