@@ -12,6 +12,9 @@ use std::alloc::AllocError;
 // `csv` reads lines this long or longer. No line of a plan or a trace is so long.
 pub(crate) const LONGEST: usize = 256;
 
+// No row of a trace, as it is written, has so many bytes with its line end.
+pub(crate) const ROW: usize = 96;
+
 // The first byte of a byte order mark. `csv` reads a line that begins with it.
 pub(crate) const MARK: u8 = 0xEF;
 

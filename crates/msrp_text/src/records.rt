@@ -10,7 +10,7 @@ ghost use Rattle.msrp_text.specs.Records.{FirstBegins, GivesLine, GivesNext, Has
 
 use crate::csv_records::CsvRecords;
 use crate::front::{
-    LONGEST, PlainLine, begins_with, begins_with_long, digit_after, ends_line, line_behind,
+    LONGEST, PlainLine, ROW, begins_with, begins_with_long, digit_after, ends_line, line_behind,
 };
 use crate::lines::Lines;
 use core::mem;
@@ -129,7 +129,7 @@ impl<R: Read> RecordReader<R> {
         let Way::Lines(lines) = &self.way else {
             return self.meets_apart(front, line);
         };
-        if ends_line(line) && begins_with_long(&lines.ahead()[front.len()..], line) {
+        if begins_with_long(&lines.ahead()[front.len()..], line) && ends_line(line) {
             self.take_line(front.len() + line.len());
             return true;
         }
@@ -163,7 +163,7 @@ impl<R: Read> RecordReader<R> {
 
     /// The second field of the next record, if it is one digit after that first field, both
     /// unquoted in the bytes read ahead; otherwise none, and nothing is known. Reads until a whole
-    /// line is there.
+    /// line is there, or more bytes than a row of a trace has.
     #[inline(always)]
     pub fn digit_after(&mut self, first: &[u8]) -> Option<u8>
         ensures next { IfSome result (λ digit. is_plain_field first.now ≡ true → (left : List (List (List ℕ))) → records_left R.remaining self.new ≡ Some left → FirstBegins (first.now ∷ (digit ∷ []) ∷ []) left) }
@@ -173,7 +173,7 @@ impl<R: Read> RecordReader<R> {
         ensures stop { stop_of self.new ≡ stop_of self.old }
         ensures still { (bytes : List ℕ) (number : ℕ) → HasRead R.remaining bytes number self.old → HasRead R.remaining bytes number self.new }
     {
-        if first.len() <= 8 && self.ahead().len() > LONGEST {
+        if first.len() <= 8 && self.ahead().len() > ROW {
             if let Some(digit) = digit_after(self.ahead(), first) {
                 return Some(digit);
             }
