@@ -88,7 +88,15 @@ fn keep_row(lasts: &mut [Option<Row>], core: CoreId, row: Row)
     ensures here { row_of_core lasts.new core.0 ≡ Some row }
     ensures others { (c : ℕ) → ¬ (c % 8 ≡ core.0 % 8) → row_of_core lasts.new c ≡ row_of_core lasts.old c }
 {
-    lasts[(core.0 % MOST_CORES) as usize] = Some(row);
+    // Field by field, so that the bytes between the fields aren't written.
+    lasts[(core.0 % MOST_CORES) as usize] = Some(Row {
+        tick: row.tick,
+        core: row.core,
+        kind: row.kind,
+        job: row.job,
+        res: row.res,
+        ahead: row.ahead,
+    });
 }
 
 // The row that is kept of a core.
