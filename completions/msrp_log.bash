@@ -3,11 +3,11 @@ _msrp_log() {
   local word=${COMP_WORDS[COMP_CWORD]} words
   COMPREPLY=()
   if [ "$COMP_CWORD" = 1 ]; then
-    words='audit help --help'
+    words='audit why help --help'
   else
     case ${COMP_WORDS[1]} in
-      audit) words='--op --slack --skew --tick --backlog --help' ;;
-      help) words='audit' ;;
+      audit|why) words='--op --slack --skew --tick --backlog --help' ;;
+      help) words='audit why' ;;
     esac
   fi
   if [[ $COMP_CWORD == 1 || $word == -* || ${COMP_WORDS[1]} == help ]]; then

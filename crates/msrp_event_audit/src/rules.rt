@@ -31,8 +31,8 @@ fn is_reached(clock: Option<u64>, wait: u64, now: u64) -> bool
     }
 }
 
-// Whether the core has not run the job that it should for longer than this.
-fn is_overdue(operation: u64, slack: u64, now: u64, core: CoreLog) -> bool
+/// Whether the core has not run the job that it should for longer than this.
+pub(crate) fn is_overdue(operation: u64, slack: u64, now: u64, core: CoreLog) -> bool
     requires { operation + slack < 2 ^ 64 }
     ensures { result ≡ is_overdue operation slack now core }
 {
@@ -42,8 +42,8 @@ fn is_overdue(operation: u64, slack: u64, now: u64, core: CoreLog) -> bool
         && is_past(core.acted, operation + slack, now)
 }
 
-// The slack at the core that the event is of, or at another one.
-fn allowance(tolerances: Tolerances, own: bool) -> u64
+/// The slack at the core that the event is of, or at another one.
+pub(crate) fn allowance(tolerances: Tolerances, own: bool) -> u64
     ensures value { result ≡ allowance tolerances own }
     ensures most { result < 2 ^ 34 }
 {
@@ -68,19 +68,24 @@ pub(crate) fn any_overdue(tolerances: Tolerances, cores: &[CoreLog], own: CoreId
     false
 }
 
-fn is_late(wait: u64, now: u64, clock: Option<u64>) -> bool
+pub(crate) fn is_late(wait: u64, now: u64, clock: Option<u64>) -> bool
     ensures { result ≡ is_late wait now clock }
 {
     clock.is_some() && is_past(clock, wait, now)
+}
+
+/// How long a resource may be free while a job awaits it.
+pub(crate) fn late_wait(tolerances: Tolerances) -> u64
+    ensures { result ≡ tolerances.operation + tolerances.slack + tolerances.skew }
+{
+    u64::from(tolerances.operation) + u64::from(tolerances.slack) + u64::from(tolerances.skew)
 }
 
 /// Whether a resource has been free for longer than the slack while a job awaits it.
 pub(crate) fn any_late(tolerances: Tolerances, free: &[Option<u64>], now: u64) -> bool
     ensures { result ≡ any_late tolerances free.now now }
 {
-    let wait = u64::from(tolerances.operation)
-        + u64::from(tolerances.slack)
-        + u64::from(tolerances.skew);
+    let wait = late_wait(tolerances);
     free.iter().any(|clock| is_late(wait, now, *clock))
 }
 

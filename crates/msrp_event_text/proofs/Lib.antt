@@ -1,2 +1,3 @@
 pub mod LongDigits
 pub mod LeftRecords
+pub mod Decided

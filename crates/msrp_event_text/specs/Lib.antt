@@ -1,3 +1,4 @@
 pub mod Numbers
 pub mod LogEvents
 pub mod LogVerdicts
+pub mod Decisions
