@@ -16,7 +16,7 @@ use crate::events::{event_of, refusal_of};
 use crate::verdicts::{Judged, LogError, LogVerdict, Shown};
 use csv::ByteRecord;
 use msrp_event_audit::LogAuditor;
-use msrp_events::{Finding, Tolerances};
+use msrp_events::{Event, Finding, Tolerances};
 use msrp_system::System;
 use msrp_text::fields::{has_word, number_at};
 use msrp_text::records::RecordReader;
@@ -43,8 +43,22 @@ fn is_head(system: &System, fields: &ByteRecord) -> bool
         && is_number(fields, 2, system.cores())
 }
 
+/// Is shown each event with the auditor before it.
+pub trait Watch {
+    fn note(&mut self, auditor: &LogAuditor<'_>, event: Event);
+}
+
+/// Notes nothing.
+#[derive(Clone, Copy, Debug, Drop)]
+pub struct Unwatched;
+
+impl Watch for Unwatched {
+    fn note(&mut self, _auditor: &LogAuditor<'_>, _event: Event) {}
+}
+
 // What a record shows after the others, if it shows something.
-fn judge_record(
+fn judge_record<W: Watch>(
+    watch: &mut W,
     auditor: &mut LogAuditor,
     numbers: &mut Vec<Option<u64>>,
     system: &System,
@@ -65,16 +79,19 @@ fn judge_record(
             refusal: refusal_of(fields),
             number,
         }),
-        Some(event) => match auditor.feed(event) {
-            Ok(()) => {
-                note(numbers, event);
-                Ok(None)
+        Some(event) => {
+            watch.note(auditor, event);
+            match auditor.feed(event) {
+                Ok(()) => {
+                    note(numbers, event);
+                    Ok(None)
+                }
+                Err(finding) => {
+                    tell(numbers, event);
+                    Ok(Some(finding))
+                }
             }
-            Err(finding) => {
-                tell(numbers, event);
-                Ok(Some(finding))
-            }
-        },
+        }
     }
 }
 
@@ -111,8 +128,9 @@ fn shown_by(system: &System, fields: &ByteRecord, finding: Finding, number: u64)
 }
 
 // The verdict on the records after the first one, and what decides it.
-fn judge_records<R: Read>(
+fn judge_records<R: Read, W: Watch>(
     alloc: Global,
+    watch: &mut W,
     auditor: &mut LogAuditor,
     numbers: &mut Vec<Option<u64>>,
     system: &System,
@@ -132,7 +150,7 @@ fn judge_records<R: Read>(
                 shown: None,
             });
         }
-        if let Some(finding) = judge_record(auditor, numbers, system, fields, number)? {
+        if let Some(finding) = judge_record(watch, auditor, numbers, system, fields, number)? {
             let shown = shown_by(system, fields, finding, number);
             let verdict = settle(alloc, numbers, system, records, finding, number)?;
             return Ok(Judged { verdict, shown });
@@ -146,10 +164,11 @@ fn judge_records<R: Read>(
 /// The first record that is no event is refused. A fault is certain once each other core that
 /// numbers its records has shown one more, without a gap. Memory is taken for a few records alone,
 /// however long the text is.
-pub fn judge_log<R: Read + Drop>(
+pub fn judge_log<R: Read + Drop, W: Watch>(
     alloc: Global,
     text: R,
     system: &System,
+    watch: &mut W,
     auditor: &mut LogAuditor,
     fields: &mut ByteRecord,
 ) -> Result<Judged, LogError>
@@ -164,7 +183,15 @@ pub fn judge_log<R: Read + Drop>(
     if !records.read(fields)? || !is_head(system, fields) {
         return Err(LogError::Head);
     }
-    judge_records(alloc, auditor, &mut numbers, system, &mut records, fields)
+    judge_records(
+        alloc,
+        watch,
+        auditor,
+        &mut numbers,
+        system,
+        &mut records,
+        fields,
+    )
 }
 
 /// The verdict on the events of a text, as of [`judge_log`]. Memory is taken for the auditor and a
@@ -179,5 +206,15 @@ pub fn audit_log<R: Read + Drop>(
 {
     let mut auditor = LogAuditor::with_room(alloc, system, tolerances)?;
     let mut fields = ByteRecord::new(alloc);
-    Ok(judge_log(alloc, text, system, &mut auditor, &mut fields)?.verdict)
+    Ok(
+        judge_log(
+            alloc,
+            text,
+            system,
+            &mut Unwatched,
+            &mut auditor,
+            &mut fields,
+        )?
+        .verdict,
+    )
 }

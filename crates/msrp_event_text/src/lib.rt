@@ -14,7 +14,7 @@ mod numbers;
 mod systems;
 mod verdicts;
 
-pub use auditing::{audit_log, judge_log};
+pub use auditing::{Unwatched, Watch, audit_log, judge_log};
 pub use events::{Refusal, event_of};
 pub use systems::{SystemError, SystemRefusal, read_system};
 pub use verdicts::{Judged, LogError, LogVerdict, Shown};

@@ -12,7 +12,7 @@ use thiserror::Error;
 /// name.
 #[derive(Clone, Copy, Debug, Error, PartialEq, Eq)]
 pub enum Refused {
-    #[error("usage: msrp_log audit|why [--op T] [--slack T] [--skew T] [--tick T] [--backlog N] SYSTEM LOG")]
+    #[error("usage: msrp_log audit|why|report [--op T] [--slack T] [--skew T] [--tick T] [--backlog N] SYSTEM LOG")]
     Usage,
     #[error("system: {0}")]
     System(SystemError),

@@ -21,6 +21,7 @@ pub struct Audit<'a> {
 pub enum Asked<'a> {
     Audit(Audit<'a>),
     Why(Audit<'a>),
+    Report(Audit<'a>),
     Help,
 }
 
@@ -98,7 +99,12 @@ fn grammar<'a>(alloc: Global) -> Result<Command<'a>, AllocError> {
             "Judges a kernel's log by the Multiprocessor Stack Resource Policy. Times are in ns, or as 5us, 2ms, 1s.",
         )
         .subcommand(judging(alloc, "audit", "judge a log: good, or its first fault")?)?
-        .subcommand(judging(alloc, "why", why)?)
+        .subcommand(judging(alloc, "why", why)?)?
+        .subcommand(judging(
+            alloc,
+            "report",
+            "judge a log, and count what a good one exercises",
+        )?)
 }
 
 // The number of these digits, if they are one.
@@ -183,6 +189,7 @@ pub fn asked_of<'a>(alloc: Global, words: &'a [String]) -> Result<Asked<'a>, Ref
         Ok(matches) => match matches.subcommand() {
             Some(("audit", matches)) => Ok(Asked::Audit(audit_of(matches)?)),
             Some(("why", matches)) => Ok(Asked::Why(audit_of(matches)?)),
+            Some(("report", matches)) => Ok(Asked::Report(audit_of(matches)?)),
             _ => Err(Refused::Usage),
         },
         Err(error) => match fault_of_words(error.kind()) {

@@ -1,11 +1,12 @@
 //! `msrp_log`: judges the log of a kernel by its events, with their times as they are.
 //!
-//! `cli` reads the command line, `systems` the system or the plan, `why` gives reasons, and `main`
+//! `cli` reads the command line, `systems` the system or the plan, `why` gives reasons, `report` counts, and `main`
 //! prints the verdict and gives the exit status. `msrp_event_text` judges.
 #![tactic(auto)]
 
 mod answers;
 mod cli;
+mod report;
 mod systems;
 mod why;
 
@@ -14,9 +15,10 @@ use cli::{Asked, Audit, asked_of, help_text};
 use csv::ByteRecord;
 use msrp_cli::{Input, open_both, words_of};
 use msrp_event_audit::LogAuditor;
-use msrp_event_text::{Judged, audit_log, judge_log};
+use msrp_event_text::{Judged, Unwatched, audit_log, judge_log};
 use msrp_plan::bytes::Sink;
 use msrp_system::System;
+use report::Report;
 use std::alloc::{AllocError, Global};
 use std::io;
 use std::process::ExitCode;
@@ -67,11 +69,34 @@ fn explain(rt: &HostRuntime, words: &Audit<'_>) -> Result<u8, Refused> {
     let (system, log) = opened(rt, words)?;
     let mut auditor = LogAuditor::with_room(alloc, &system, words.tolerances)?;
     let mut fields = ByteRecord::new(alloc);
-    let judged = judge_log(alloc, log, &system, &mut auditor, &mut fields)?;
+    let judged = judge_log(
+        alloc,
+        log,
+        &system,
+        &mut Unwatched,
+        &mut auditor,
+        &mut fields,
+    )?;
     let (line, status) = verdict_line(alloc, judged.verdict)?;
     let reason = reason(alloc, &auditor, &fields, judged)?;
     print(rt, &line)?;
     print(rt, &reason)?;
+    Ok(status)
+}
+
+// Prints the verdict and, if the log is good, what it exercises; the exit status.
+fn count(rt: &HostRuntime, words: &Audit<'_>) -> Result<u8, Refused> {
+    let alloc = rt.alloc();
+    let (system, log) = opened(rt, words)?;
+    let mut auditor = LogAuditor::with_room(alloc, &system, words.tolerances)?;
+    let mut report = Report::with_room(alloc, &system, words.tolerances.backlog)?;
+    let mut fields = ByteRecord::new(alloc);
+    let judged = judge_log(alloc, log, &system, &mut report, &mut auditor, &mut fields)?;
+    let (line, status) = verdict_line(alloc, judged.verdict)?;
+    print(rt, &line)?;
+    if status == 0 {
+        print(rt, &format!(in alloc; "{report}")?)?;
+    }
     Ok(status)
 }
 
@@ -82,6 +107,7 @@ fn run(rt: &HostRuntime) -> Result<u8, Refused> {
     match asked_of(alloc, &words)? {
         Asked::Audit(words) => audit(rt, &words),
         Asked::Why(words) => explain(rt, &words),
+        Asked::Report(words) => count(rt, &words),
         Asked::Help => {
             print(rt, &help_text(alloc, &words)?)?;
             Ok(0)
