@@ -3,11 +3,11 @@ _msrp_log() {
   local word=${COMP_WORDS[COMP_CWORD]} words
   COMPREPLY=()
   if [ "$COMP_CWORD" = 1 ]; then
-    words='audit help --help'
+    words='audit why report help --help'
   else
     case ${COMP_WORDS[1]} in
-      audit) words='--op --slack --skew --tick --backlog --help' ;;
-      help) words='audit' ;;
+      audit|why|report) words='--op --slack --skew --tick --backlog --help' ;;
+      help) words='audit why report' ;;
     esac
   fi
   if [[ $COMP_CWORD == 1 || $word == -* || ${COMP_WORDS[1]} == help ]]; then

@@ -1,12 +1,14 @@
 # Completion of msrp_log in fish.
-set -l commands audit help
+set -l commands audit why report help
 complete -c msrp_log -n "not __fish_seen_subcommand_from $commands" -f
 complete -c msrp_log -n "not __fish_seen_subcommand_from $commands" -a audit -d 'judge a log'
+complete -c msrp_log -n "not __fish_seen_subcommand_from $commands" -a why -d 'judge a log, and give the reason for a fault'
+complete -c msrp_log -n "not __fish_seen_subcommand_from $commands" -a report -d 'judge a log, and count what a good one exercises'
 complete -c msrp_log -n "not __fish_seen_subcommand_from $commands" -a help -d 'the commands, or the flags of one'
-complete -c msrp_log -n '__fish_seen_subcommand_from audit' -l op -x -d 'how long an operation on a resource takes'
-complete -c msrp_log -n '__fish_seen_subcommand_from audit' -l slack -x -d 'how long the kernel may take to react'
-complete -c msrp_log -n '__fish_seen_subcommand_from audit' -l skew -x -d 'how much the clocks of two cores may differ'
-complete -c msrp_log -n '__fish_seen_subcommand_from audit' -l tick -x -d 'how long a tick of the plan lasts'
-complete -c msrp_log -n '__fish_seen_subcommand_from audit' -l backlog -x -d 'how many jobs may be released and not ended'
-complete -c msrp_log -n '__fish_seen_subcommand_from help' -f -a 'audit'
+complete -c msrp_log -n '__fish_seen_subcommand_from audit why report' -l op -x -d 'how long an operation on a resource takes'
+complete -c msrp_log -n '__fish_seen_subcommand_from audit why report' -l slack -x -d 'how long the kernel may take to react'
+complete -c msrp_log -n '__fish_seen_subcommand_from audit why report' -l skew -x -d 'how much the clocks of two cores may differ'
+complete -c msrp_log -n '__fish_seen_subcommand_from audit why report' -l tick -x -d 'how long a tick of the plan lasts'
+complete -c msrp_log -n '__fish_seen_subcommand_from audit why report' -l backlog -x -d 'how many jobs may be released and not ended'
+complete -c msrp_log -n '__fish_seen_subcommand_from help' -f -a 'audit why report'
 complete -c msrp_log -l help -s h -d 'print help'

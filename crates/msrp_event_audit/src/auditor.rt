@@ -23,10 +23,10 @@ use std::marker::Model;
 /// reports the first rule that an event violates, or the first thing that the log lacks.
 #[derive(Drop)]
 pub struct LogAuditor<'a> {
-    system: &'a System,
-    tolerances: Tolerances,
-    state: State,
-    finding: Option<Finding>,
+    pub(crate) system: &'a System,
+    pub(crate) tolerances: Tolerances,
+    pub(crate) state: State,
+    pub(crate) finding: Option<Finding>,
 }
 
 impl<'a> Model for LogAuditor<'a> {
@@ -97,6 +97,7 @@ impl<'a> LogAuditor<'a> {
         ensures fed { (events : List LogEvent) → HasFed self.old events → HasFed self.new (events ++ event ∷ []) }
         ensures answer { (events : List LogEvent) → HasFed self.old events → result ≡ answer_of (finding_in self.old.system self.old.tolerances (events ++ event ∷ [])) }
         ensures same { (found : Found) → self.old.finding ≡ Some found → result ≡ Err found }
+        ensures kept { (found : Found) → result ≡ Err found → self.new.state ≡ self.old.state }
     {
         match self.finding {
             Some(finding) => Err(finding),
@@ -111,6 +112,7 @@ impl<'a> LogAuditor<'a> {
         ensures tolerances { self.new.tolerances ≡ self.old.tolerances }
         ensures fed { (events : List LogEvent) → HasFed self.old events → HasFed self.new (events ++ event ∷ []) }
         ensures answer { (events : List LogEvent) → HasFed self.old events → result ≡ answer_of (finding_in self.old.system self.old.tolerances (events ++ event ∷ [])) }
+        ensures kept { (found : Found) → result ≡ Err found → self.new.state ≡ self.old.state }
     {
         match self.shows(event) {
             Some(finding) => {

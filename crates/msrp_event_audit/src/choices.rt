@@ -65,8 +65,8 @@ fn earlier(system: &System, first: Option<LiveJob>, live: LiveJob) -> LiveJob
     }
 }
 
-// The first job of the core among those that are started, or among those that aren't.
-fn first_of(system: &System, jobs: &[LiveJob], core: CoreId, started: bool) -> Option<LiveJob>
+/// The first job of the core among those that are started, or among those that aren't.
+pub fn first_of(system: &System, jobs: &[LiveJob], core: CoreId, started: bool) -> Option<LiveJob>
     requires { All (IsKnown system.now) jobs.now }
     ensures value { result ≡ first_of system.now jobs.now core.0 started }
     ensures known { ForSome result (IsKnown system.now) }
@@ -80,8 +80,8 @@ fn first_of(system: &System, jobs: &[LiveJob], core: CoreId, started: bool) -> O
     first
 }
 
-// The current ceiling of the core.
-fn ceiling(system: &System, jobs: &[LiveJob], core: CoreId) -> u32
+/// The current ceiling of the core.
+pub fn ceiling(system: &System, jobs: &[LiveJob], core: CoreId) -> u32
     requires { All (IsKnown system.now) jobs.now }
     ensures { result ≡ ceiling system.now jobs.now core.0 }
 {
@@ -132,7 +132,7 @@ fn chosen(
 }
 
 /// The job that the core should run, or none.
-pub(crate) fn choice(system: &System, jobs: &[LiveJob], core: CoreId) -> Option<JobId>
+pub fn choice(system: &System, jobs: &[LiveJob], core: CoreId) -> Option<JobId>
     requires { All (IsKnown system.now) jobs.now }
     ensures { result ≡ choice system.now jobs.now core.0 }
 {

@@ -31,7 +31,7 @@ pub(crate) fn place_of(jobs: &[LiveJob], job: JobId) -> Option<usize>
 }
 
 /// The job with what is known of it, if it is released and has not ended.
-pub(crate) fn live_job(jobs: &[LiveJob], job: JobId) -> Option<LiveJob>
+pub fn live_job(jobs: &[LiveJob], job: JobId) -> Option<LiveJob>
     ensures value { result ≡ live_with jobs.now job }
     ensures known { (system : PlanModel) → All (IsKnown system) jobs.now → ForSome result (IsKnown system) }
 {
@@ -40,7 +40,7 @@ pub(crate) fn live_job(jobs: &[LiveJob], job: JobId) -> Option<LiveJob>
 }
 
 /// Whether the job has locked the resource and not yet unlocked it.
-pub(crate) fn holds(system: &System, res: ResId, live: LiveJob) -> bool
+pub fn holds(system: &System, res: ResId, live: LiveJob) -> bool
     requires { IsKnown system.now live }
     ensures { result ≡ holds system.now res.0 live }
 {
@@ -48,7 +48,7 @@ pub(crate) fn holds(system: &System, res: ResId, live: LiveJob) -> bool
 }
 
 /// The next lock or unlock of the job.
-fn next_unit(system: &System, live: LiveJob) -> Option<Op>
+pub fn next_unit(system: &System, live: LiveJob) -> Option<Op>
     requires { IsKnown system.now live }
     ensures { result ≡ next_unit system.now live }
 {
@@ -76,7 +76,7 @@ pub(crate) fn unlocks_next(system: &System, res: ResId, live: LiveJob) -> bool
 }
 
 /// Whether the job has requested the resource and not yet acquired it.
-pub(crate) fn awaits(system: &System, res: ResId, live: LiveJob) -> bool
+pub fn awaits(system: &System, res: ResId, live: LiveJob) -> bool
     requires { IsKnown system.now live }
     ensures { result ≡ awaits system.now res.0 live }
 {

@@ -11,7 +11,10 @@ mod changes;
 mod choices;
 mod findings;
 mod jobs;
+mod known;
 mod rules;
 mod states;
 
 pub use auditor::LogAuditor;
+pub use choices::{ceiling, choice, first_of};
+pub use jobs::{awaits, holds, live_job, next_unit};

@@ -39,8 +39,8 @@ fn allowance(tolerances: Tolerances) -> u64
     u64::from(tolerances.slack) + u64::from(tolerances.skew)
 }
 
-// Whether the core has not run the job that it should for longer than this.
-fn is_overdue(tolerances: Tolerances, now: u64, core: CoreLog) -> bool
+/// Whether the core has not run the job that it should for longer than this.
+pub(crate) fn is_overdue(tolerances: Tolerances, now: u64, core: CoreLog) -> bool
     ensures { result ≡ is_overdue tolerances now core }
 {
     let wait = allowance(tolerances);
@@ -56,19 +56,24 @@ pub(crate) fn any_overdue(tolerances: Tolerances, cores: &[CoreLog], now: u64) -
     cores.iter().any(|core| is_overdue(tolerances, now, *core))
 }
 
-fn is_late(wait: u64, now: u64, clock: Option<u64>) -> bool
+pub(crate) fn is_late(wait: u64, now: u64, clock: Option<u64>) -> bool
     ensures { result ≡ is_late wait now clock }
 {
     clock.is_some() && is_past(clock, wait, now)
+}
+
+/// How long a resource may be free while a job awaits it.
+pub(crate) fn late_wait(tolerances: Tolerances) -> u64
+    ensures { result ≡ tolerances.operation + tolerances.slack + tolerances.skew }
+{
+    u64::from(tolerances.operation) + u64::from(tolerances.slack) + u64::from(tolerances.skew)
 }
 
 /// Whether a resource has been free for longer than the slack while a job awaits it.
 pub(crate) fn any_late(tolerances: Tolerances, free: &[Option<u64>], now: u64) -> bool
     ensures { result ≡ any_late tolerances free.now now }
 {
-    let wait = u64::from(tolerances.operation)
-        + u64::from(tolerances.slack)
-        + u64::from(tolerances.skew);
+    let wait = late_wait(tolerances);
     free.iter().any(|clock| is_late(wait, now, *clock))
 }
 

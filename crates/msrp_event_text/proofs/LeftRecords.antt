@@ -1,28 +1,25 @@
 -- The verdict on the records that are left, one record after another.
 use Rattle.std.proofs.Common.{◌≡◌, ◌+◌, ◌++◌, ◌∷◌, ◌∙◌, if◌then◌else◌}
-use Rattle.msrp_plan.proofs.Common.{ℕ, Bool, true, false, List, [], Option, Some, None, Result, Ok, Err, refl, ap, sym, inl, inr, PlanModel}
+use Rattle.msrp_plan.proofs.Common.{ℕ, Bool, true, false, List, [], Option, Some, None, Result, Ok, Err, refl, ap, sym, subst, inl, inr, PlanModel}
 use Rattle.msrp_text.specs.Records.{GivesNext}
-use Rattle.msrp_text.specs.declared.records.Stopped.{Stopped}
-use Rattle.msrp_text.specs.declared.records.Stopped.TheVariants as stopped
+use Rattle.msrp_events.specs.Findings.{finding_in}
 use Rattle.msrp_events.specs.declared.events.Event.{Event}
 use Rattle.msrp_events.specs.declared.findings.Finding.{Finding}
 use Rattle.msrp_events.specs.declared.findings.LogRule.{LogRule}
 use Rattle.msrp_events.specs.declared.findings.Missing.TheVariants as missing
 use Rattle.msrp_events.specs.declared.states.Tolerances.{Tolerances}
 use Rattle.msrp_event_text.specs.LogEvents.{event_of}
-use Rattle.msrp_event_text.specs.LogVerdicts.{Answers, error_at, record_shows, events_with, numbers_by, decided_or, settled, verdict_from, is_certain, record_loses, told_by, after_record, confirmed_from, is_head, no_numbers, verdict_of}
+use Rattle.msrp_event_text.specs.LogVerdicts.{Answers, record_shows, events_with, numbers_by, decided_or, settled, verdict_from, is_certain, record_loses, told_by, after_record, confirmed_from, is_head, no_numbers, verdict_of}
 use Rattle.msrp_event_text.specs.declared.confirming.Awaited.{Awaited}
 use Rattle.msrp_event_text.specs.declared.verdicts.LogVerdict.{LogVerdict}
 use Rattle.msrp_event_text.specs.declared.verdicts.LogVerdict.TheVariants.{Fault, Unconfirmed, Incomplete}
 use Rattle.msrp_event_text.specs.declared.verdicts.LogError.{LogError}
 use Rattle.msrp_event_text.specs.declared.verdicts.LogError.TheVariants.{Head}
 
--- a reader that has stopped answers so
-pub stopped-answers : (why : Stopped) (answer verdict : Result LogVerdict LogError) → answer ≡ Err (error_at why) → Answers answer verdict
-stopped-answers stopped.Read answer verdict h = inl h
-stopped-answers stopped.Memory answer verdict h = inr (inl h)
+-- an answer is one by an equal verdict too, and so is an equal answer
+pub answer-is : (a b verdict : Result LogVerdict LogError) → a ≡ b → Answers a verdict → Answers b verdict
+answer-is a b verdict e h = subst (λ r. Answers r verdict) e h
 
--- an answer by one verdict is one by an equal verdict
 pub answers-same : (answer v w : Result LogVerdict LogError) → v ≡ w → Answers answer v → Answers answer w
 answers-same answer v w e (inl h) = inl h
 answers-same answer v w e (inr (inl h)) = inr (inl h)
@@ -63,11 +60,15 @@ verdict-goes system t u same number events numbers left fields rest at e ns h on
     sym (verdict-decided system t u same number events numbers left fields rest at (Ok None) _ h
     (ap (λ es. verdict_from system u (number + 1) es (numbers_by numbers (event_of system fields)) rest) one ∙ ap (λ it. verdict_from system u (number + 1) (events ++ e ∷ []) it rest) (sym two)))
 
--- a record that shows nothing has an event
-pub has-event : (system : PlanModel) (tolerances : Tolerances) (number : ℕ) (events : List Event) (fields : List (List ℕ)) (o : Option Event) → record_shows system tolerances number events fields o ≡ Ok None
-    → (e : Event) × (o ≡ Some e) × (events_with events o ≡ events ++ e ∷ [])
-has-event system tolerances number events fields None h = absurd (cc)
-has-event system tolerances number events fields (Some e) h = (e, refl, refl)
+-- a record that shows something, or shows nothing, has an event
+abbrev found_or : Result (Option Finding) LogError → Option Finding
+found_or (Ok found) = found
+found_or (Err error) = None
+
+pub has-event : (system : PlanModel) (tolerances : Tolerances) (number : ℕ) (events : List Event) (fields : List (List ℕ)) (o : Option Event) (found : Option Finding) → record_shows system tolerances number events fields o ≡ Ok found
+    → (e : Event) × (o ≡ Some e) × (events_with events o ≡ events ++ e ∷ []) × (finding_in system tolerances (events ++ e ∷ []) ≡ found)
+has-event system tolerances number events fields None found h = absurd (cc)
+has-event system tolerances number events fields (Some e) found h = (e, refl, refl, ap found_or h)
 
 -- ---- whether a fault is certain
 pub confirmed-certain : (system : PlanModel) (rule : LogRule) (number at : ℕ) (awaited : List Awaited) (left : List (List (List ℕ))) → is_certain awaited ≡ true → confirmed_from system rule number at awaited left ≡ Ok (Fault rule number)

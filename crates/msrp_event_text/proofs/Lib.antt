@@ -1,3 +1,4 @@
 pub mod LongDigits
 pub mod LeftRecords
 pub mod Losses
+pub mod Decided

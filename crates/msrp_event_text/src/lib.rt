@@ -1,7 +1,8 @@
 //! The text of a kernel's log, read and judged.
 //!
 //! [`audit_log`] judges the events of a text as they are read, in memory that doesn't grow with the
-//! text, and [`read_system`] reads the system. `docs/LOG.md` has both formats. Whether the fields
+//! text, [`judge_log`] also leaves the auditor as it was before the event that decides, and
+//! [`read_system`] reads the system. `docs/LOG.md` has both formats. Whether the fields
 //! beyond an event's own are empty isn't judged.
 #![tactic(auto)]
 
@@ -14,7 +15,7 @@ mod numbers;
 mod systems;
 mod verdicts;
 
-pub use auditing::audit_log;
+pub use auditing::{Unwatched, Watch, audit_log, judge_log};
 pub use events::{Refusal, event_of};
 pub use systems::{SystemError, SystemRefusal, read_system};
-pub use verdicts::{LogError, LogVerdict};
+pub use verdicts::{Judged, LogError, LogVerdict, Shown};

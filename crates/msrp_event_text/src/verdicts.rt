@@ -3,7 +3,7 @@ ghost use Rattle.std.specs.Prelude.{◌≡◌};
 ghost use Rattle.msrp_event_text.specs.declared.verdicts.LogError.TheVariants as error;
 
 use crate::events::Refusal;
-use msrp_events::{LogRule, Missing};
+use msrp_events::{Event, Finding, LogRule, Missing};
 use msrp_plan::Memory;
 use msrp_text::records::Stopped;
 use thiserror::Error;
@@ -20,6 +20,21 @@ pub enum LogVerdict {
     Unconfirmed { rule: LogRule, number: u64 },
     /// The log lacks something, which the record of that number shows.
     Incomplete { missing: Missing, number: u64 },
+}
+
+/// The first event that shows something, in the record of that number.
+#[derive(Clone, Copy, Debug, PartialEq, Eq)]
+pub struct Shown {
+    pub finding: Finding,
+    pub event: Event,
+    pub number: u64,
+}
+
+/// The verdict on a log, and what decides it; nothing does if the log is good.
+#[derive(Clone, Copy, Debug, PartialEq, Eq)]
+pub struct Judged {
+    pub verdict: LogVerdict,
+    pub shown: Option<Shown>,
 }
 
 /// Why a log isn't judged to its end.

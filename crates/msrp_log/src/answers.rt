@@ -1,9 +1,9 @@
 //! What the program prints, and its exit status.
 
 use msrp_event_text::{LogError, LogVerdict, SystemError};
-use msrp_events::{LogRule, Missing};
+use msrp_events::Missing;
 use msrp_faults::CliFault;
-use msrp_plan::WriteFault;
+use msrp_plan::{Memory, WriteFault};
 use msrp_text::TextError;
 use std::alloc::{AllocError, AllocFailed, Global};
 use thiserror::Error;
@@ -12,7 +12,7 @@ use thiserror::Error;
 /// name.
 #[derive(Clone, Copy, Debug, Error, PartialEq, Eq)]
 pub enum Refused {
-    #[error("usage: msrp_log audit [--op T] [--slack T] [--skew T] [--tick T] [--backlog N] SYSTEM LOG")]
+    #[error("usage: msrp_log audit|why|report [--op T] [--slack T] [--skew T] [--tick T] [--backlog N] SYSTEM LOG")]
     Usage,
     #[error("system: {0}")]
     System(SystemError),
@@ -71,6 +71,12 @@ impl From<TextError> for Refused {
     }
 }
 
+impl From<Memory> for Refused {
+    fn from(_refused: Memory) -> Refused {
+        Refused::Memory
+    }
+}
+
 impl From<AllocError> for Refused {
     fn from(_refused: AllocError) -> Refused {
         Refused::Memory
@@ -86,21 +92,6 @@ impl<T: Drop> From<AllocFailed<T>> for Refused {
 impl From<WriteFault> for Refused {
     fn from(_fault: WriteFault) -> Refused {
         Refused::Write
-    }
-}
-
-fn rule_name(rule: LogRule) -> &'static str {
-    match rule {
-        LogRule::E1 => "E1",
-        LogRule::E2 => "E2",
-        LogRule::E3 => "E3",
-        LogRule::E4 => "E4",
-        LogRule::E5 => "E5",
-        LogRule::E6 => "E6",
-        LogRule::E7 => "E7",
-        LogRule::E8 => "E8",
-        LogRule::E9 => "E9",
-        LogRule::E10 => "E10",
     }
 }
 
@@ -123,12 +114,10 @@ pub fn verdict_line(alloc: Global, verdict: LogVerdict) -> Result<(String, u8), 
     match verdict {
         LogVerdict::Good => Ok((String::from_str(alloc, "good\n")?, 0)),
         LogVerdict::Fault { rule, number } => {
-            let rule = rule_name(rule);
-            Ok((format!(in alloc; "fault,{number},{rule}\n")?, 1))
+            Ok((format!(in alloc; "fault,{number},{rule:?}\n")?, 1))
         }
         LogVerdict::Unconfirmed { rule, number } => {
-            let rule = rule_name(rule);
-            Ok((format!(in alloc; "unconfirmed,{number},{rule}\n")?, 2))
+            Ok((format!(in alloc; "unconfirmed,{number},{rule:?}\n")?, 2))
         }
         LogVerdict::Incomplete { missing, number } => {
             let missing = missing_name(missing);

@@ -20,6 +20,8 @@ pub struct Audit<'a> {
 #[derive(Debug, Drop)]
 pub enum Asked<'a> {
     Audit(Audit<'a>),
+    Why(Audit<'a>),
+    Report(Audit<'a>),
     Help,
 }
 
@@ -70,9 +72,10 @@ fn with_tolerances<'a>(
     with_arg(with_arg(with_arg(made, operation), slack), skew)
 }
 
-fn audit_words<'a>(alloc: Global) -> Result<Command<'a>, AllocError> {
+// A command that judges a log.
+fn judging<'a>(alloc: Global, name: &'a str, help: &'a str) -> Result<Command<'a>, AllocError> {
     let backlog = "how many jobs may be released and not ended (default 4096)";
-    let made = Ok(Command::new(alloc, "audit").about("judge a log: good, or its first fault"));
+    let made = Ok(Command::new(alloc, name).about(help));
     let made = with_tolerances(alloc, made);
     let made = with_arg(
         made,
@@ -90,11 +93,18 @@ fn audit_words<'a>(alloc: Global) -> Result<Command<'a>, AllocError> {
 }
 
 fn grammar<'a>(alloc: Global) -> Result<Command<'a>, AllocError> {
+    let why = "judge a log, and give the reason for a fault";
     Command::new(alloc, "msrp_log")
         .about(
             "Judges a kernel's log by the Multiprocessor Stack Resource Policy. Times are in ns, or as 5us, 2ms, 1s.",
         )
-        .subcommand(audit_words(alloc)?)
+        .subcommand(judging(alloc, "audit", "judge a log: good, or its first fault")?)?
+        .subcommand(judging(alloc, "why", why)?)?
+        .subcommand(judging(
+            alloc,
+            "report",
+            "judge a log, and count what a good one exercises",
+        )?)
 }
 
 // The number of these digits, if they are one.
@@ -178,6 +188,8 @@ pub fn asked_of<'a>(alloc: Global, words: &'a [String]) -> Result<Asked<'a>, Ref
     match grammar(alloc)?.try_get_matches_from(words) {
         Ok(matches) => match matches.subcommand() {
             Some(("audit", matches)) => Ok(Asked::Audit(audit_of(matches)?)),
+            Some(("why", matches)) => Ok(Asked::Why(audit_of(matches)?)),
+            Some(("report", matches)) => Ok(Asked::Report(audit_of(matches)?)),
             _ => Err(Refused::Usage),
         },
         Err(error) => match fault_of_words(error.kind()) {

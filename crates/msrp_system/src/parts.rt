@@ -1,7 +1,7 @@
 //! What a system is made of.
 ghost use Rattle.std.specs.Prelude.{◌≡◌, ◌<◌, ◌≤◌, ◌+◌, string_bytes};
 ghost use Rattle.std.specs.List.{position};
-ghost use Rattle.msrp_plan.specs.Common.{length, map, take, list_any, None, option_map, name_position, bytes_eq, task_at, uses, is_lock_of, is_unlock_of, holds_after};
+ghost use Rattle.msrp_plan.specs.Common.{length, map, take, list_any, slice_get, Some, None, option_map, name_position, bytes_eq, task_at, uses, is_lock_of, is_unlock_of, holds_after};
 ghost use Rattle.msrp_system.specs.Systems.{system_of, system_fault, task_view, most_tasks, most_resources, most_steps};
 ghost use Rattle.msrp_system.specs.Inside.Views.{IsSystem};
 
@@ -155,6 +155,20 @@ impl Parts {
             Some(place) => Some(ResId(place as u32)),
             None => None,
         }
+    }
+
+    pub(crate) fn task_name(&self, task: TaskId) -> &str
+        requires { task.0 < length self.now.tasks }
+        ensures { result.now ≡ (task_at self.now task.0).name }
+    {
+        self.task(task).name.as_str()
+    }
+
+    pub(crate) fn res_name(&self, res: ResId) -> &str
+        requires { res.0 < length self.now.resources }
+        ensures { slice_get self.now.resources res.0 ≡ Some result.now }
+    {
+        self.resources[res.0 as usize].as_str()
     }
 
     pub(crate) fn tasks(&self) -> u32

@@ -1,6 +1,6 @@
 //! Systems, and why one is refused.
 ghost use Rattle.std.specs.Prelude.{◌≡◌, ◌<◌, ◌≤◌, ◌&&◌};
-ghost use Rattle.msrp_plan.specs.Common.{Err, IfOk, length, list_any, map, filter, not, take, task_at, greatest, level, is_global, local_ceiling, top, holds_after, resources, option_map, name_position};
+ghost use Rattle.msrp_plan.specs.Common.{Err, IfOk, Some, length, list_any, slice_get, map, filter, not, take, task_at, greatest, level, is_global, local_ceiling, top, holds_after, resources, option_map, name_position};
 ghost use Rattle.msrp_plan.specs.Ceiling.{ceiling_with};
 ghost use Rattle.msrp_system.specs.Systems.{most_tasks, most_resources, most_steps, system_of, IsJudged, system_fault, is_undeclared, names_undeclared, is_long, is_beyond, is_past_limits};
 ghost use Rattle.msrp_system.specs.Inside.Views.{IsSystem};
@@ -203,6 +203,28 @@ impl System {
         ensures { option_map (λ res. res.0) result ≡ name_position self.now.resources name.now }
     {
         self.parts.res_of(name)
+    }
+
+    /// The name of a task, and `?` if the system lacks it.
+    pub fn task_name(&self, task: TaskId) -> &str
+        ensures { task.0 < length self.now.tasks → result.now ≡ (task_at self.now task.0).name }
+    {
+        if task.0 < self.tasks() {
+            self.parts.task_name(task)
+        } else {
+            "?"
+        }
+    }
+
+    /// The name of a resource, and `?` if the system lacks it.
+    pub fn res_name(&self, res: ResId) -> &str
+        ensures { res.0 < length self.now.resources → slice_get self.now.resources res.0 ≡ Some result.now }
+    {
+        if res.0 < self.resources() {
+            self.parts.res_name(res)
+        } else {
+            "?"
+        }
     }
 
     /// The core of a task.
