@@ -2,7 +2,7 @@
 use Rattle.std.proofs.Common.{◌≡◌, ◌≢◌, ◌+◌, ◌-◌, ◌*◌, ◌<◌, ◌∷◌, ◌++◌, ◌≤◌, ◌^◌}
 use Rattle.msrp_plan.proofs.Common.{ℕ, List, [], sym, subst, arith, length, PlanModel, length-append, take-append-le, take_all}
 use Rattle.msrp_plan.specs.declared.rows.Row.{Row}
-use Rattle.msrp_export.specs.Signals.{HasTaken, Summarizes, TellTick, rows_before, rows_in}
+use Rattle.msrp_export.specs.Signals.{HasTaken, Summarizes, TellTick, rows_before}
 use Rattle.msrp_export.specs.declared.exporter.Exporter.{Exporter}
 use Rattle.msrp_export.specs.declared.signals.Signals.{Signals}
 use Rattle.msrp_export.specs.declared.summary.Summary.{Summary}
@@ -23,7 +23,7 @@ length_push : (rows : List Row) (r : Row) → length (rows ++ r ∷ []) ≡ leng
 length_push rows r = length-append rows (r ∷ [])
 
 -- all rows are in the ticks up to this one
-all_in : (plan : PlanModel) (rows : List Row) (tick : ℕ) → length rows ≤ tick * plan.cores + plan.cores → rows_in plan rows tick ≡ rows
+all_in : (plan : PlanModel) (rows : List Row) (tick : ℕ) → length rows ≤ tick * plan.cores + plan.cores → rows_before plan rows (tick + 1) ≡ rows
 all_in plan rows tick few = take_all ((tick + 1) * plan.cores) rows (let next = more tick plan.cores in omega (arith, few, next))
 
 -- the rows of ticks that are over stay

@@ -1,10 +1,10 @@
 -- What the rows of a trace say of a core, of a task and of a resource.
-use Rattle.std.specs.Prelude.{◌==◌, ◌&&◌, if◌then◌else◌, ◌/◌, ◌≡◌, ◌<◌, ◌+◌, filter_map, ◌-◌, ◌*◌}
-use Rattle.msrp_plan.specs.Common.{ℕ, List, Bool, true, false, not, nat_lt, nat_le, Option, Some, None, fold, count_by, length, PlanModel, key, task_at, is_released, is_waiting, job_at, log_of, fifo, is_on, is_some, slice_index_or, most_cores, most_resources, most_tasks, is_release, is_release_of, is_request, requester, take, nat_eq, option_map, IsPlan}
+use Rattle.std.specs.Prelude.{◌==◌, ◌&&◌, ◌||◌, if◌then◌else◌, ◌/◌, ◌≡◌, ◌<◌, ◌+◌, ◌-◌, ◌*◌}
+use Rattle.msrp_plan.specs.Common.{ℕ, List, Bool, true, false, not, nat_lt, nat_le, Option, Some, None, fold, count_by, length, PlanModel, key, task_at, is_released, is_waiting, job_at, log_of, fifo, is_on, is_some, slice_index_or, most_cores, most_resources, most_tasks, is_grant, is_release, is_release_of, is_request, same_kind, take, nat_eq, option_map, IsPlan}
 use Rattle.msrp_plan.specs.declared.ids.JobId.{JobId}
 use Rattle.msrp_plan.specs.declared.rows.Kind.{Kind}
-use Rattle.msrp_plan.specs.declared.rows.Kind.TheVariants.{Lock, Unlock, Take, Grant, Release}
-use Rattle.msrp_plan.specs.declared.rows.Row.{Row}
+use Rattle.msrp_plan.specs.declared.rows.Kind.TheVariants.{Lock, Unlock, Take}
+pub use Rattle.msrp_plan.specs.declared.rows.Row.{Row}
 use Rattle.msrp_export.specs.declared.signals.ResourceState.{ResourceState}
 use Rattle.msrp_export.specs.declared.tasks.TaskState.{TaskState}
 use Rattle.msrp_export.specs.declared.tasks.TaskState.TheVariants.{Unreleased, Ready, Running, Holding, Spinning}
@@ -21,16 +21,11 @@ use Rattle.msrp_export.specs.declared.signals.Track.TheVariants.{Core, Resource,
 
 -- a row of these kinds gives its job a resource
 abbrev pub acquires : Kind → Bool
-acquires Lock = true
-acquires Take = true
-acquires Grant = true
-acquires _ = false
+acquires k = same_kind k Lock || (same_kind k Take || is_grant k)
 
 -- a row of these kinds takes a resource from its job
 abbrev pub gives_up : Kind → Bool
-gives_up Unlock = true
-gives_up Release = true
-gives_up _ = false
+gives_up k = same_kind k Unlock || is_release k
 
 -- ---- cores
 -- the last row of a core, if it has one: what the core does
@@ -100,6 +95,10 @@ holder_with g held r = if is_on g r.res then holder_by held r else held
 abbrev pub holder : ℕ → List Row → Option JobId
 holder g rows = fold (holder_with g) None rows
 
+-- the row is a request of a job for the resource
+abbrev pub is_request_of : ℕ → Row → Bool
+is_request_of g r = is_on g r.res && (is_some r.job && is_request r.kind)
+
 -- the holder, and how many jobs are in the queue
 abbrev pub resource_state : ℕ → List Row → ResourceState
 resource_state g rows = record { holder = holder g rows; queue_length = length (fifo g rows) }
@@ -119,7 +118,7 @@ counts_of t rows = record { work = work t rows; acquired = acquired t rows; give
 
 -- of a resource
 abbrev pub use_of : ℕ → List Row → ResourceUse
-use_of g rows = record { holder = holder g rows; requests = length (filter_map (requester g) rows); releases = count_by (is_release_of g) rows }
+use_of g rows = record { holder = holder g rows; requests = count_by (is_request_of g) rows; releases = count_by (is_release_of g) rows }
 
 -- with one more row of the task
 abbrev pub counted : Row → TaskCounts → TaskCounts
@@ -154,10 +153,6 @@ IsTrack plan (Resource g) = g.0 < length plan.resources
 abbrev pub rows_before : PlanModel → List Row → ℕ → List Row
 rows_before plan rows tick = take (tick * plan.cores) rows
 
--- the rows up to the end of a tick
-abbrev pub rows_in : PlanModel → List Row → ℕ → List Row
-rows_in plan rows tick = rows_before plan rows (tick + 1)
-
 -- the state on a track in a tick, by the rows before the tick and those up to its end
 abbrev pub state_of : PlanModel → List Row → List Row → ℕ → Track → Option State
 state_of plan before rows tick (Core c) = option_map CoreState (last_row c.0 rows)
@@ -165,7 +160,7 @@ state_of plan before rows tick (Task t) = Some (StateOfTask (task_status plan be
 state_of plan before rows tick (Resource g) = Some (StateOfResource (resource_state g.0 rows))
 
 abbrev pub state_in : PlanModel → List Row → ℕ → Track → Option State
-state_in plan rows tick track = state_of plan (rows_before plan rows tick) (rows_in plan rows tick) tick track
+state_in plan rows tick track = state_of plan (rows_before plan rows tick) (rows_before plan rows (tick + 1)) tick track
 
 -- in the tick before, if there is one
 abbrev pub state_before : PlanModel → List Row → ℕ → Track → Option State
@@ -176,7 +171,7 @@ state_before plan rows tick track = if nat_eq tick 0 then None else state_in pla
 pub record TellTick (s : Signals) (rows : List Row) : Type 0 where
   pub earlier : Summarizes s.earlier (rows_before s.plan.now rows (s.tick - 1))
   pub before : Summarizes s.before (rows_before s.plan.now rows s.tick)
-  pub latest : Summarizes s.latest (rows_in s.plan.now rows s.tick)
+  pub latest : Summarizes s.latest (rows_before s.plan.now rows (s.tick + 1))
 
 -- the exporter has taken these rows
 pub record HasTaken (e : Exporter) (rows : List Row) : Type 0 where

@@ -1,8 +1,7 @@
 //! The tracks of cores, tasks and resources, and their states in a tick and in the tick before.
 ghost use Rattle.std.specs.Prelude.{◌≡◌, ◌<◌, ◌+◌, ◌^◌};
 ghost use Rattle.msrp_plan.specs.Common.{[], List, IfSome, IsPlan};
-ghost use Rattle.msrp_plan.specs.declared.rows.Row.{Row as TraceRow};
-ghost use Rattle.msrp_export.specs.Signals.{IsTrack, Summarizes, TellTick, state_before, state_in, state_of};
+ghost use Rattle.msrp_export.specs.Signals.{Row as TraceRow, IsTrack, Summarizes, TellTick, state_before, state_in, state_of};
 
 use crate::summary::{Summary, next};
 use crate::tasks::{TaskStatus, task_status};

@@ -1,8 +1,7 @@
 //! What the rows so far say of each core, task and resource.
 ghost use Rattle.std.specs.Prelude.{◌≡◌, ◌<◌, ◌+◌, ◌++◌, ◌∷◌, ◌^◌};
 ghost use Rattle.msrp_plan.specs.Common.{ℕ, [], List, None, cond, length, slice_index_or, is_waiting, most_cores, most_resources, most_tasks};
-ghost use Rattle.msrp_plan.specs.declared.rows.Row.{Row as TraceRow};
-ghost use Rattle.msrp_export.specs.Signals.{Summarizes, acquires, counted, counts_of, gives_up, holder_by, last_row, no_counts, no_use, resource_state, use_of, used};
+ghost use Rattle.msrp_export.specs.Signals.{Row as TraceRow, Summarizes, acquires, counted, counts_of, gives_up, holder_by, last_row, no_counts, no_use, resource_state, use_of, used};
 
 use crate::signals::ResourceState;
 use msrp_plan::limits::{MOST_CORES, MOST_RESOURCES, MOST_TASKS};

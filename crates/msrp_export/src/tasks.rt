@@ -2,8 +2,7 @@
 ghost use Rattle.std.specs.Prelude.{◌≡◌, ◌<◌, ◌≤◌, ◌^◌, ◌*◌, if◌then◌else◌};
 ghost use Rattle.msrp_plan.specs.Common.{List, length, release, IsPlan};
 ghost use Rattle.msrp_plan.specs.Limits.{longest_time};
-ghost use Rattle.msrp_plan.specs.declared.rows.Row.{Row as TraceRow};
-ghost use Rattle.msrp_export.specs.Signals.{Summarizes, job_after, released_state, row_in, task_status, work};
+ghost use Rattle.msrp_export.specs.Signals.{Row as TraceRow, Summarizes, job_after, released_state, row_in, task_status, work};
 ghost use Rattle.msrp_export.specs.declared.tasks.TaskState.TheVariants.{Unreleased};
 
 use crate::summary::{Summary, waits};

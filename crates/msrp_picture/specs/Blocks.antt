@@ -1,10 +1,12 @@
--- Blocks of rows: stretches of ticks in which one job runs on a core, or does the same.
-use Rattle.msrp_plan.specs.Common.{ℕ, Option, true, List, [], Bool, None, false, Some, is_some, option_map, same_res, same_kind, is_of, same_choice}
-use Rattle.std.specs.Prelude.{◌∷◌, ◌&&◌, if◌then◌else◌, ◌==◌, ◌+◌, ◌++◌, filter_map}
-use Rattle.msrp_picture.specs.Types.{JobId, Lane, Look, ResId, Row, Block}
-use Rattle.msrp_picture.specs.declared.shapes.Look.TheVariants.{Ceiling, Does, First, Runs}
-use Rattle.msrp_picture.specs.Rows.{is_job_of}
-use Rattle.msrp_picture.specs.declared.shapes.Lane.TheVariants.{Core, Task}
+-- The blocks of a picture: of rows, that is stretches of ticks in which one job runs on a core, or
+-- does the same; of critical sections, of the ceilings of cores, and of the queues of resources.
+use Rattle.std.specs.Prelude.{◌∷◌, ◌&&◌, ◌||◌, if◌then◌else◌, ◌==◌, ◌≡◌, ◌+◌, ◌-◌, ◌*◌, ◌++◌, filter_map}
+use Rattle.msrp_plan.specs.Common.{ℕ, List, [], Bool, true, false, Option, Some, None, is_some, is_none, cons_option, drop, find, length, map, nat_lt, take, flat_map, range_with_len, option_map, ceiling, fault_in, fifo, is_grant, is_of, is_release, same_res, same_kind, same_choice}
+use Rattle.msrp_plan.specs.declared.rows.Kind.TheVariants.{Lock, Take, Unlock}
+use Rattle.msrp_picture.specs.Types.{Block, CoreId, JobId, Kind, Lane, Look, PlanModel, ResId, Row, TaskId}
+use Rattle.msrp_picture.specs.Rows.{is_job_of, ticks_begun}
+use Rattle.msrp_picture.specs.declared.shapes.Lane.TheVariants.{Ceiling as CeilingLane, Core, Queue, Task}
+use Rattle.msrp_picture.specs.declared.shapes.Look.TheVariants.{Ceiling, Does, First, Holds, Runs}
 
 -- a block of legal rows
 abbrev pub lasting : Lane → ℕ → ℕ → Look → Option JobId → Option ResId → Block
@@ -21,6 +23,10 @@ look_of _ r = None
 abbrev pub tick_of : Lane → Bool → Row → Option Block
 tick_of lane is_legal r = option_map (λ shown. record (lasting lane r.tick (r.tick + 1) shown.0 r.job shown.1) { is_legal = is_legal }) (look_of lane r)
 
+-- the rows that a lane shows, each in its tick
+abbrev pub shown_rows : Lane → Bool → List Row → List Block
+shown_rows lane is_legal rows = filter_map (tick_of lane is_legal) rows
+
 -- ---- stretches
 abbrev pub same_look : Look → Look → Bool
 same_look Runs Runs = true
@@ -29,7 +35,7 @@ same_look (First n) (First m) = n == m
 same_look (Ceiling n) (Ceiling m) = n == m
 same_look _ _ = false
 
--- the next block continues one: it begins where that ends, and shows the same of the same job and resource
+-- the next block continues one: it begins where that ends, and shows the same
 abbrev pub goes_on : Block → Block → Bool
 goes_on s t = (s.end == t.first) && (same_look s.look t.look && (same_choice s.job t.job && same_res s.res t.res))
 
@@ -45,4 +51,63 @@ merged (s ∷ rest) = joined s rest
 
 -- the blocks of legal rows in a lane, and of the rows from the fault on
 abbrev pub row_blocks : Lane → List Row → List Row → List Block
-row_blocks lane legal later = merged (filter_map (tick_of lane true) legal) ++ merged (filter_map (tick_of lane false) later)
+row_blocks lane legal later = merged (shown_rows lane true legal) ++ merged (shown_rows lane false later)
+
+-- a block, taken apart into its ticks
+abbrev pub ticks_of : Block → List Block
+ticks_of s = map (λ t. record s { first = t; end = t + 1 }) (range_with_len s.first (s.end - s.first))
+
+-- the blocks of a lane, taken apart, are the rows that it shows, in their order: each row is in
+-- exactly one block, which shows what the row is
+abbrev pub EachRowInOneBlock : Lane → Bool → List Row → Type 0
+EachRowInOneBlock lane is_legal rows = flat_map ticks_of (merged (shown_rows lane is_legal rows)) ≡ shown_rows lane is_legal rows
+
+-- ---- critical sections: from the row that gives a job a resource to the one that takes it back
+abbrev pub gets : Kind → Bool
+gets k = same_kind k Lock || (same_kind k Take || is_grant k)
+
+abbrev pub gives_back : Kind → Bool
+gives_back k = same_kind k Unlock || is_release k
+
+-- the section that begins with a row ends with this one
+abbrev pub ends_section : Row → Row → Bool
+ends_section r s = same_choice r.job s.job && (same_res r.res s.res && gives_back s.kind)
+
+-- the tick after that row, and where there is none the end of all rows
+abbrev pub section_end : ℕ → Option Row → ℕ
+section_end end None = end
+section_end end (Some s) = s.tick + 1
+
+-- the section that begins with the first of these rows, if one does
+abbrev pub first_section : TaskId → ℕ → List Row → List Block
+first_section t end [] = []
+first_section t end (r ∷ rest) = if gets r.kind then lasting (Task t) r.tick (section_end end (find (ends_section r) rest)) Holds r.job r.res ∷ [] else []
+
+-- the sections of a task's rows, where all rows end with a tick
+abbrev pub sections : TaskId → ℕ → List Row → List Block
+sections t end rows = flat_map (λ i. first_section t end (drop i rows)) (range_with_len 0 (length rows))
+
+-- ---- the ceilings of cores
+-- the last of these rows with the current ceiling of its core after them, if none of them is
+-- refused
+abbrev pub ceiling_after : PlanModel → List Row → Row → Option (Row × ℕ)
+ceiling_after plan rows r = if is_none (fault_in plan rows) then Some (r, ceiling plan r.core.0 rows) else None
+
+-- each row behind others with that
+unfoldable pub ceilings : PlanModel → List Row → List Row → List (Row × ℕ)
+ceilings plan pre [] = []
+ceilings plan pre (r ∷ rows) = cons_option (ceiling_after plan (pre ++ r ∷ []) r) (ceilings plan (pre ++ r ∷ []) rows)
+
+-- the tick of a row of the core, if its ceiling is above 0
+abbrev pub ceiling_tick : CoreId → (Row × ℕ) → Option Block
+ceiling_tick c after = if is_of c.0 after.0 && nat_lt 0 after.1 then Some (lasting (CeilingLane c) after.0.tick (after.0.tick + 1) (Ceiling after.1) None None) else None
+
+-- ---- the queue of a global resource after each tick
+-- in a tick who is first in the queue, and how many wait behind; nothing where the queue is empty
+abbrev pub first_of : ResId → ℕ → List JobId → List Block
+first_of g t [] = []
+first_of g t (j ∷ waiting) = lasting (Queue g) t (t + 1) (First (length waiting)) (Some j) (Some g) ∷ []
+
+-- after each tick
+abbrev pub queue_ticks : PlanModel → List Row → ResId → List Block
+queue_ticks plan rows g = flat_map (λ t. first_of g t (fifo g.0 (take ((t + 1) * plan.cores) rows))) (range_with_len 0 (ticks_begun plan rows))

@@ -1,7 +1,8 @@
--- The rows of a trace that are drawn: those before the fault, and the others.
-use Rattle.msrp_plan.specs.Common.{ℕ, List, [], Bool, false, Option, Some, None, Ok, Err, drop, length, min, slice_range, take, ⊤}
-use Rattle.std.specs.Prelude.{◌==◌, ◌+◌, ◌-◌, ◌*◌, ◌/◌, ◌%◌, filter}
-use Rattle.msrp_picture.specs.Types.{Fault, JobId, PlanModel, Result, Row}
+-- What is drawn of a trace: its rows, those before the fault and the others, and the ticks.
+use Rattle.msrp_plan.specs.Common.{ℕ, List, [], Bool, false, Option, Some, None, Ok, Err, drop, length, min, max, nat_lt, nat_le, slice_range, take, unwrap_or, ⊤}
+use Rattle.std.specs.Prelude.{◌==◌, ◌+◌, ◌-◌, ◌*◌, ◌/◌, ◌%◌, ◌&&◌, ◌<◌, if◌then◌else◌, filter}
+use Rattle.msrp_picture.specs.Types.{Asked, Block, Event, Fault, JobId, PlanModel, Result, Row, Window}
+use Rattle.msrp_picture.specs.declared.windows.TheConstants.{SHORT_RUN}
 
 -- the rows before the fault that the verdict names: rows count from 1
 abbrev pub legal_rows : List Row → Result ⊤ Fault → List Row
@@ -28,3 +29,24 @@ is_job_of t (Some j) = j.task.0 == t
 -- the rows of a task's jobs
 abbrev pub task_rows : ℕ → List Row → List Row
 task_rows t rows = filter (λ r. is_job_of t r.job) rows
+
+-- ---- ticks
+-- these ticks, if there is one and all of them are the plan's
+abbrev pub within : PlanModel → ℕ → ℕ → Option Window
+within plan from to = if nat_lt from to && nat_le to plan.ticks then Some (record { from = from; to = to }) else None
+
+-- the ticks that are asked for, if the plan has such ticks
+abbrev pub window_of : PlanModel → Asked → Option Window
+window_of plan asked = within plan (unwrap_or asked.from 0) (unwrap_or asked.to (min plan.ticks (unwrap_or asked.from 0 + SHORT_RUN)))
+
+-- a window has a tick
+abbrev pub IsWindow : Window → Type 0
+IsWindow w = w.from < w.to
+
+-- some ticks of the block are drawn
+abbrev pub is_seen : Window → Block → Bool
+is_seen w b = nat_lt (max b.first w.from) (min b.end w.to)
+
+-- the tick of the event is drawn, or is the end of the picture
+abbrev pub is_at : Window → Event → Bool
+is_at w e = nat_le w.from e.tick && nat_le e.tick w.to

@@ -1,18 +1,45 @@
--- What there is to see in a picture. Of the rows from the fault on only who runs and what jobs do is shown, and as not legal; nothing else is drawn
--- after the fault.
-use Rattle.std.specs.Prelude.{◌≡◌, ◌∷◌, ◌++◌, filter, filter_map}
-use Rattle.msrp_plan.specs.Common.{List, [], Option, Some, None, Ok, Err, length, map, ⊤, flat_map, range_with_len, resources, is_global}
+-- What there is to see in a picture. Of the rows from the fault on only who runs and what jobs do
+-- is shown, and as not legal; nothing else is drawn after the fault.
+use Rattle.std.specs.Prelude.{◌≡◌, ◌∷◌, ◌+◌, ◌++◌, if◌then◌else◌, filter, filter_map}
+use Rattle.msrp_plan.specs.Common.{ℕ, List, [], Option, Some, None, Ok, Err, IfSome, IsSomeAnd, fold, length, map, ⊤, flat_map, range_with_len, resources, is_finished, is_global, is_row_of, jobs_of, release, task_of}
 use Rattle.msrp_audit.specs.Audits.{IsDueRow}
-use Rattle.msrp_picture.specs.Types.{Block, Event, Fault, Life, PlanModel, Result, Row, Shapes, Violation, Window}
-use Rattle.msrp_picture.specs.Blocks.{merged, row_blocks}
-use Rattle.msrp_picture.specs.Lanes.{ceiling_tick, ceilings, queue_ticks, sections}
-use Rattle.msrp_picture.specs.Lives.{event_of, life_block, lives}
-use Rattle.msrp_picture.specs.Rows.{later_rows, legal_rows, task_rows, ticks_begun}
-use Rattle.msrp_picture.specs.Windows.{is_at, is_seen}
+use Rattle.msrp_picture.specs.Types.{Block, Event, Fault, JobId, Life, Look, Moment, PlanModel, Result, Row, Shapes, Violation, Window}
+use Rattle.msrp_picture.specs.Blocks.{ceiling_tick, ceilings, lasting, merged, queue_ticks, row_blocks, sections}
+use Rattle.msrp_picture.specs.Rows.{is_at, is_seen, task_rows, ticks_begun}
 use Rattle.msrp_picture.specs.declared.shapes.Lane.TheVariants.{Core, Task}
 use Rattle.msrp_picture.specs.declared.shapes.Look.TheVariants.{Late, Life as Lived}
 use Rattle.msrp_picture.specs.declared.shapes.Moment.TheVariants.{Completion, Deadline, Release}
 
+-- ---- the lives of jobs: release, absolute deadline and completion
+-- the tick after the last row of a job
+abbrev pub after_last : JobId → List Row → ℕ
+after_last j rows = fold (λ _ r. r.tick + 1) 0 (filter (is_row_of j) rows)
+
+-- a job that isn't finished lasts as long as there are rows
+abbrev pub life_of : PlanModel → List Row → JobId → Life
+life_of plan rows j = record {
+  job = j;
+  release = release plan j;
+  deadline = release plan j + (task_of plan j).deadline;
+  end = if is_finished plan rows j then after_last j rows else ticks_begun plan rows;
+  is_finished = is_finished plan rows j;
+}
+
+-- of the jobs of a task, and of the plan
+abbrev pub task_lives : PlanModel → List Row → ℕ → List Life
+task_lives plan rows t = map (life_of plan rows) (jobs_of plan t)
+
+abbrev pub lives : PlanModel → List Row → List Life
+lives plan rows = flat_map (task_lives plan rows) (range_with_len 0 (length plan.tasks))
+
+-- what is drawn from a tick to the end of a life, and a moment of a life
+abbrev pub life_block : Look → ℕ → Life → Block
+life_block look first life = lasting (Task life.job.task) first life.end look (Some life.job) None
+
+abbrev pub event_of : Moment → ℕ → Life → Event
+event_of moment tick life = record { moment = moment; tick = tick; job = life.job }
+
+-- ---- all shapes
 -- who runs on each core, and its ceilings: a block for each longest stretch
 abbrev pub cores_blocks : PlanModel → List Row → List Row → List Block
 cores_blocks plan legal later =
@@ -49,9 +76,7 @@ violation (r ∷ rest) (Err fault) = Some (record { row = r; rule = fault.rule }
 
 -- the row is the one that is expected of the core of the violation after the legal rows
 abbrev pub IsExpected : PlanModel → List Row → Option Violation → Option Row → Type 0
-IsExpected plan legal (Some v) (Some due) = IsDueRow plan legal v.row.core.0 due
-IsExpected plan legal None (Some due) = ⊥
-IsExpected plan legal v None = ⊤
+IsExpected plan legal violation row = IfSome row (λ due. IsSomeAnd violation (λ v. IsDueRow plan legal v.row.core.0 due))
 
 -- what there is to see in the ticks of a window
 pub record AreShapes (plan : PlanModel) (legal later : List Row) (found : Result ⊤ Fault) (w : Window) (shapes : Shapes) : Type 0 where
@@ -59,7 +84,3 @@ pub record AreShapes (plan : PlanModel) (legal later : List Row) (found : Result
   pub events : shapes.events.items ≡ events w (lives plan legal)
   pub violation : shapes.violation ≡ violation later found
   pub expected : IsExpected plan legal shapes.violation shapes.expected
-
--- of these rows with that verdict
-abbrev pub AreShapesOf : PlanModel → List Row → Result ⊤ Fault → Window → Shapes → Type 0
-AreShapesOf plan rows found w shapes = AreShapes plan (legal_rows rows found) (later_rows rows found) found w shapes

@@ -1,7 +1,7 @@
 //! Blocks of rows: stretches of ticks in which one job runs on a core, or does the same.
 ghost use Rattle.msrp_plan.specs.Common.{OnOk, IfOk, List};
-ghost use Rattle.std.specs.Prelude.{◌≡◌, ◌∷◌, ◌++◌, filter_map};
-ghost use Rattle.msrp_picture.specs.Blocks.{goes_on, joined, look_of, merged, same_look, row_blocks, tick_of};
+ghost use Rattle.std.specs.Prelude.{◌≡◌, ◌∷◌, ◌++◌};
+ghost use Rattle.msrp_picture.specs.Blocks.{goes_on, joined, look_of, merged, same_look, row_blocks, shown_rows, tick_of};
 ghost use Rattle.msrp_picture.specs.declared.shapes.Block.{Block as Shown};
 
 use crate::Added;
@@ -92,7 +92,7 @@ fn tick_of(lane: Lane, is_legal: bool, row: &Row) -> Option<Block>
 }
 
 fn ticks_of(alloc: Global, lane: Lane, is_legal: bool, rows: &[Row]) -> Result<Vec<Block>, Memory>
-    ensures { IfOk result (λ ticks. ticks.items ≡ filter_map (tick_of lane is_legal) rows.now) }
+    ensures { IfOk result (λ ticks. ticks.items ≡ shown_rows lane is_legal rows.now) }
 {
     let ticks = rows.iter().filter_map(|row| tick_of(lane, is_legal, row));
     gathered(ticks, alloc)

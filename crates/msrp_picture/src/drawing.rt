@@ -1,12 +1,13 @@
 //! What there is to see in a picture, and the picture.
 ghost use Rattle.std.specs.Prelude.{◌≡◌, ◌++◌, filter};
-ghost use Rattle.msrp_plan.specs.Common.{IfOk, OnOk};
-ghost use Rattle.msrp_picture.specs.Shapes.{AreShapes, AreShapesOf, IsExpected, blocks, cores_blocks, events, lives_blocks, queues_blocks, tasks_blocks, violation};
-ghost use Rattle.msrp_picture.specs.Windows.{IsWindow, is_seen};
+ghost use Rattle.msrp_plan.specs.Common.{[], IfOk, OnOk};
+ghost use Rattle.msrp_audit.specs.Audits.{HasFed};
+ghost use Rattle.msrp_picture.specs.Blocks.{ceilings};
+ghost use Rattle.msrp_picture.specs.Shapes.{AreShapes, IsExpected, blocks, cores_blocks, events, lives_blocks, queues_blocks, tasks_blocks, violation};
+ghost use Rattle.msrp_picture.specs.Rows.{IsWindow, is_seen, later_rows, legal_rows};
 
 use crate::blocks::push_rows;
 use crate::elements::svg;
-use crate::expected::expected_row;
 use crate::gathering::gathered;
 use crate::lanes::{ceilings_of, push_ceilings, push_queue, push_sections};
 use crate::lives::{Life, lives_of};
@@ -15,18 +16,19 @@ use crate::scene::Scene;
 use crate::shapes::{Block, Event, Lane, Look, Moment, Shapes, Violation};
 use crate::windows::{Asked, Style, Window, shown_window};
 use crate::{Added, Verdict};
+use msrp_audit::Auditor;
 use msrp_levels::Levels;
 use msrp_plan::{CoreId, Memory, Plan, ResId, Row, TaskId};
 use std::alloc::Global;
 
 // Who runs on each core, and its ceilings as long as the rows are legal.
-fn push_cores(blocks: &mut Vec<Block>, scene: &Scene<'_>) -> Added
+fn push_cores(blocks: &mut Vec<Block>, scene: &Scene<'_>, after: &[(Row, u32)]) -> Added
+    requires { after.now ≡ ceilings scene.now.plan.now [] scene.now.rows.now }
     ensures { OnOk result (blocks.new.items ≡ blocks.old.items ++ cores_blocks scene.now.plan.now scene.now.rows.now scene.now.later.now) }
 {
-    let ceilings = ceilings_of(scene)?;
     for core in 0..scene.plan.cores() {
         push_rows(blocks, scene, Lane::Core(CoreId(core)))?;
-        push_ceilings(blocks, scene, &ceilings, CoreId(core))?;
+        push_ceilings(blocks, scene, after, CoreId(core))?;
     }
     Ok(())
 }
@@ -65,11 +67,16 @@ fn lives_blocks(scene: &Scene<'_>, lives: &[Life]) -> Result<Vec<Block>, Memory>
 }
 
 // All blocks of the trace.
-fn blocks_of(scene: &Scene<'_>, lives: &[Life]) -> Result<Vec<Block>, Memory>
+fn blocks_of(
+    scene: &Scene<'_>,
+    lives: &[Life],
+    after: &[(Row, u32)],
+) -> Result<Vec<Block>, Memory>
+    requires { after.now ≡ ceilings scene.now.plan.now [] scene.now.rows.now }
     ensures { IfOk result (λ all. all.items ≡ blocks scene.now.plan.now scene.now.rows.now scene.now.later.now lives.now) }
 {
     let mut blocks = lives_blocks(scene, lives)?;
-    push_cores(&mut blocks, scene)?;
+    push_cores(&mut blocks, scene, after)?;
     push_tasks(&mut blocks, scene)?;
     push_queues(&mut blocks, scene)?;
     Ok(blocks)
@@ -88,12 +95,10 @@ fn events_of(scene: &Scene<'_>, lives: &[Life]) -> Result<Vec<Event>, Memory>
     ensures { IfOk result (λ all. all.items ≡ events scene.now.window lives.now) }
 {
     let window = scene.window;
-    let releases = lives
-        .iter()
-        .map(|life| life.event(Moment::Release, life.release));
-    let deadlines = lives
-        .iter()
-        .map(|life| life.event(Moment::Deadline, life.deadline));
+    let releases = lives.iter();
+    let releases = releases.map(|life| life.event(Moment::Release, life.release));
+    let deadlines = lives.iter();
+    let deadlines = deadlines.map(|life| life.event(Moment::Deadline, life.deadline));
     let finished = lives.iter().filter(|life| life.is_finished);
     let completions = finished.map(|life| life.event(Moment::Completion, life.end));
     let all = releases.chain(deadlines).chain(completions);
@@ -112,31 +117,42 @@ fn violation_of(scene: &Scene<'_>) -> Option<Violation>
     }
 }
 
-// The row that is expected in place of the first that violates a rule, if there is one.
-fn expected_of(scene: &Scene<'_>, violation: Option<Violation>) -> Result<Option<Row>, Memory>
+// The row that is expected of the core of the first one that violates a rule, if its turn in the
+// tick is still to come.
+fn expected_of(
+    scene: &Scene<'_>,
+    auditor: &Auditor<'_>,
+    violation: Option<Violation>,
+) -> Result<Option<Row>, Memory>
+    requires plan { auditor.now.plan ≡ scene.now.plan.now }
+    requires fed { HasFed auditor.now scene.now.rows.now }
     ensures { IfOk result (IsExpected scene.now.plan.now scene.now.rows.now violation) }
 {
     match violation {
-        Some(Violation { row, .. }) => expected_row(scene, row),
-        None => Ok(None),
+        Some(Violation { row, .. }) if auditor.is_due(row.core) => {
+            Ok(Some(auditor.due_row(scene.alloc, row.core)?))
+        }
+        _ => Ok(None),
     }
 }
 
 fn shapes_in(scene: &Scene<'_>) -> Result<Shapes, Memory>
     ensures { IfOk result (AreShapes scene.now.plan.now scene.now.rows.now scene.now.later.now scene.now.found scene.now.window) }
 {
+    let mut auditor = Auditor::with_room(scene.alloc, scene.plan, scene.levels)?;
+    let ceilings = ceilings_of(scene, &mut auditor)?;
     let lives = lives_of(scene)?;
-    let blocks = blocks_of(scene, &lives)?;
+    let blocks = blocks_of(scene, &lives, &ceilings)?;
     let violation = violation_of(scene);
     Ok(Shapes {
         blocks: seen(scene, &blocks)?,
         events: events_of(scene, &lives)?,
         violation,
-        expected: expected_of(scene, violation)?,
+        expected: expected_of(scene, &auditor, violation)?,
     })
 }
 
-/// What there is to see in the ticks of a window, where that is the verdict on the rows of a trace.
+/// What there is to see in the ticks of a window, with that verdict on the rows of a trace.
 pub fn shapes_of(
     alloc: Global,
     plan: &Plan,
@@ -144,15 +160,15 @@ pub fn shapes_of(
     found: Verdict,
     window: Window,
 ) -> Result<Shapes, Memory>
-    ensures { IfOk result (AreShapesOf plan.now rows.now found window) }
+    ensures { IfOk result (AreShapes plan.now (legal_rows rows.now found) (later_rows rows.now found) found window) }
 {
     let levels = Levels::of(alloc, plan)?;
     shapes_in(&Scene::of(&levels, plan, rows, found, window, alloc))
 }
 
-/// A picture of a trace with that verdict on its rows, and the sentence of a violated rule. Where no
-/// ticks are asked for and a rule is violated, the picture shows the ticks around the fault, and else
-/// those of the window.
+/// A picture of a trace with that verdict on its rows, and the sentence of a violated rule. If a rule
+/// is violated and no ticks are asked for, it shows the ticks around the fault, and else those of
+/// the window.
 pub fn draw(
     alloc: Global,
     plan: &Plan,

@@ -4,8 +4,8 @@ use crate::layout::{AXIS, LEFT, LINES, Layout, Room};
 use crate::scene::Scene;
 use crate::shapes::{Block, Event, Lane, Look, Shapes, Violation};
 use crate::words::{
-    Written, moment_words, res_name, say_block, say_event, say_row, say_ticks, say_verdict,
-    say_violation, task_name,
+    Text, Written, block_words, event_words, moment_words, res_name, row_words, task_name,
+    ticks_words, verdict_words, violation_words,
 };
 use msrp_plan::{Kind, Op, Plan, TaskId};
 use std::alloc::AllocError;
@@ -14,7 +14,7 @@ use std::fmt::Display;
 // In a wider picture the names of lanes are on both sides.
 const WIDE: u64 = 1500;
 
-// The colours of resources, which tell the colour-blind apart too (Okabe and Ito 2008, lightened).
+// The colours of resources, for the colour-blind too (Okabe and Ito 2008, lightened).
 const COLOURS: [&str; 7] = ["r0", "r1", "r2", "r3", "r4", "r5", "r6"];
 
 const STYLE: &str =
@@ -56,7 +56,7 @@ fn class_of(block: &Block) -> &'static str {
     }
 }
 
-fn label_of(scene: &Scene<'_>, block: &Block) -> Result<String, AllocError> {
+fn label_of(scene: &Scene<'_>, block: &Block) -> Text {
     let mut label = String::new(scene.alloc);
     let name = block.job.map_or("", |job| task_name(scene.plan, job.task));
     match (block.look, block.job, block.res) {
@@ -145,9 +145,8 @@ impl Canvas<'_> {
         let width = self.layout.left_of(block.end).saturating_sub(x);
         let (class, label) = (class_of(block), label_of(self.scene, block)?);
         let after = if block.is_legal { "" } else { " after" };
-        write!(self.text, "<g class=\"{class}{after}\"><title>")?;
-        say_block(&mut self.text, self.scene, block)?;
-        self.text.push_str("</title>")?;
+        let words = block_words(self.scene, block)?;
+        write!(self.text, "<g class=\"{class}{after}\"><title>{words}</title>")?;
         self.rect(x, width, room)?;
         let has_room = width_of(&label).saturating_add(3) <= width && 12 <= room.height;
         if !label.is_empty() && has_room {
@@ -183,10 +182,9 @@ impl Canvas<'_> {
         };
         let (symbol, _) = moment_words(event.moment);
         let (x, y) = (self.layout.left_of(event.tick), room.top);
+        let words = event_words(self.scene, event)?;
         write!(self.text, "<use href=\"#{symbol}\" x=\"{x}\" y=\"{y}\">")?;
-        self.text.push_str("<title>")?;
-        say_event(&mut self.text, self.scene, event)?;
-        self.text.push_str("</title></use>\n")
+        writeln!(self.text, "<title>{words}</title></use>")
     }
 
     // A frame round the row that violates a rule, and the rule's name above it.
@@ -198,9 +196,8 @@ impl Canvas<'_> {
             && self.scene.window.has_tick(row.tick)
         {
             let x = self.layout.left_of(row.tick as u64);
-            self.text.push_str("<g class=\"breaks\"><title>")?;
-            say_violation(&mut self.text, self.scene, violation)?;
-            self.text.push_str("</title>")?;
+            let words = violation_words(self.scene, violation)?;
+            write!(self.text, "<g class=\"breaks\"><title>{words}</title>")?;
             self.rect(x, self.layout.tick_width, room)?;
             self.text.push_str("</g>\n")?;
             let rule = format_args!("{:?}", violation.rule);
@@ -275,13 +272,10 @@ impl Canvas<'_> {
 
     // Which ticks are drawn, and the verdict.
     fn caption(&mut self) -> Written {
-        let mut words = String::new(self.scene.alloc);
-        words.push_str("Schedule under MSRP, ")?;
-        say_ticks(&mut words, self.scene)?;
-        self.note("title", 20, 24, &words)?;
-        words.clear();
-        say_verdict(&mut words, self.scene.found)?;
-        self.note("caption", 20, 42, &words)
+        let ticks = ticks_words(self.scene)?;
+        self.note("title", 20, 24, &format_args!("Schedule under MSRP, {ticks}"))?;
+        let verdict = verdict_words(self.scene.alloc, self.scene.found)?;
+        self.note("caption", 20, 42, &verdict)
     }
 
     // The tasks without a lane, some on a line below all lanes.
@@ -307,22 +301,19 @@ impl Canvas<'_> {
         let Some(Violation { row, .. }) = shapes.violation else {
             return Ok(());
         };
-        let mut words = String::new(self.scene.alloc);
-        write!(words, "found in tick {} on core {}: ", row.tick, row.core.0)?;
-        say_row(&mut words, self.scene, row)?;
-        self.note("why", 20, LINES + 26, &words)?;
-        let Some(row) = shapes.expected else {
-            return Ok(());
-        };
-        words.clear();
-        words.push_str("expected: ")?;
-        say_row(&mut words, self.scene, row)?;
-        self.note("why", 20, LINES + 44, &words)
+        let words = row_words(self.scene, row)?;
+        let found = format_args!("found in tick {} on core {}: {words}", row.tick, row.core.0);
+        self.note("why", 20, LINES + 26, &found)?;
+        if let Some(row) = shapes.expected {
+            let words = row_words(self.scene, row)?;
+            self.note("why", 20, LINES + 44, &format_args!("expected: {words}"))?;
+        }
+        Ok(())
     }
 }
 
 /// A picture in SVG, with the sentence of a violated rule.
-pub(crate) fn svg(scene: &Scene<'_>, shapes: &Shapes, rule: &str) -> Result<String, AllocError> {
+pub(crate) fn svg(scene: &Scene<'_>, shapes: &Shapes, rule: &str) -> Text {
     let layout = &Layout::of(scene, shapes)?;
     let right = layout.right();
     let width = right.saturating_add(if right > WIDE { LEFT } else { 20 });

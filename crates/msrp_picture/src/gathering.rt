@@ -7,8 +7,8 @@ ghost use Rattle.std.specs.Vec.{vec_len};
 use msrp_plan::Memory;
 use std::alloc::Global;
 
-/// The items of a chain, in their order. `collect` asks for the room of all at first, and goes on where that is refused; here each
-/// refused allocation is want of memory.
+/// The items of a chain, in their order. `collect` asks for the room of all first, and goes on if
+/// that allocation fails; here each failed allocation is an error.
 pub(crate) fn gathered<T: Drop, I: Iterator<Item = T>>(
     items: I,
     alloc: Global,

@@ -1,12 +1,11 @@
-//! What the lanes of a picture show beside rows: critical sections, the ceilings of cores, and the
-//! queues of global resources.
+//! What the lanes of a picture show in addition to rows: critical sections, the ceilings of cores,
+//! and the queues of global resources.
 ghost use Rattle.std.specs.Prelude.{◌≡◌, ◌∷◌, ◌++◌, ◌<◌, ◌-◌, ◌^◌, filter_map, option_copied};
 ghost use Rattle.msrp_plan.specs.Common.{ℕ, [], List, IfOk, OnOk, cons_option, find};
 ghost use Rattle.msrp_plan.specs.Requests.{HasTaken};
 ghost use Rattle.msrp_plan.specs.declared.rows.Row.{Row as TraceRow};
 ghost use Rattle.msrp_audit.specs.Audits.{HasFed};
-ghost use Rattle.msrp_picture.specs.Lanes.{ceiling_after, ceiling_tick, ceilings, ends_section, first_of, first_section, gets, gives_back, queue_ticks, section_end, sections};
-ghost use Rattle.msrp_picture.specs.Blocks.{merged};
+ghost use Rattle.msrp_picture.specs.Blocks.{ceiling_after, ceiling_tick, ceilings, ends_section, first_of, first_section, gets, gives_back, merged, queue_ticks, section_end, sections};
 ghost use Rattle.msrp_picture.specs.Rows.{rows_in};
 
 use crate::Added;
@@ -37,18 +36,11 @@ fn ends_section(row: &Row, next: &Row) -> bool
     row.job == next.job && row.res == next.res && gives_back(next.kind)
 }
 
-// The first of these rows with which the section of a row ends.
-fn last_of<'a>(row: &Row, rest: &'a [Row]) -> Option<&'a Row>
-    ensures { option_copied result ≡ find (ends_section row.now) rest.now }
-{
-    rest.iter().find(|next| ends_section(row, next))
-}
-
 // The tick after a section, which ends with one of these rows, or with the last tick.
 fn section_end(end: u64, row: &Row, rest: &[Row]) -> u64
     ensures { result ≡ section_end end (find (ends_section row.now) rest.now) }
 {
-    match last_of(row, rest) {
+    match rest.iter().find(|next| ends_section(row, next)) {
         Some(last) => last.tick as u64 + 1,
         None => end,
     }
@@ -96,39 +88,33 @@ fn push_ceiling(all: &mut Vec<(Row, u32)>, auditor: &mut Auditor<'_>, row: &Row)
     Ok(())
 }
 
-/// The rows, each with the ceiling of its core after it.
-pub(crate) fn ceilings_of(scene: &Scene<'_>) -> Result<Vec<(Row, u32)>, Memory>
-    ensures { IfOk result (λ all. all.items ≡ ceilings scene.now.plan.now [] scene.now.rows.now) }
+/// Feeds the legal rows, and answers them, each with the ceiling of its core after it.
+pub(crate) fn ceilings_of(
+    scene: &Scene<'_>,
+    auditor: &mut Auditor<'_>,
+) -> Result<Vec<(Row, u32)>, Memory>
+    requires plan { auditor.old.plan ≡ scene.now.plan.now }
+    requires fed { HasFed auditor.old [] }
+    ensures plan { auditor.new.plan ≡ scene.now.plan.now }
+    ensures fed { OnOk result (HasFed auditor.new scene.now.rows.now) }
+    ensures all { IfOk result (λ all. all.items ≡ ceilings scene.now.plan.now [] scene.now.rows.now) }
 {
-    let mut auditor = Auditor::with_room(scene.alloc, scene.plan, scene.levels)?;
     let mut all = Vec::new(scene.alloc);
     for row in scene.rows {
-        push_ceiling(&mut all, &mut auditor, row)?;
+        push_ceiling(&mut all, auditor, row)?;
     }
     Ok(all)
-}
-
-fn raised(core: CoreId, row: &Row, ceiling: u32) -> Option<Block>
-    ensures { result ≡ ceiling_tick core (row.now, ceiling) }
-{
-    if row.core != core || ceiling == 0 {
-        return None;
-    }
-    let (lane, look, tick) = (Lane::Ceiling(core), Look::Ceiling(ceiling), row.tick as u64);
-    Some(lasting(lane, tick, tick + 1, look, None, None))
 }
 
 fn ceiling_tick(core: CoreId, after: &(Row, u32)) -> Option<Block>
     ensures { result ≡ ceiling_tick core after.now }
 {
-    raised(core, &after.0, after.1)
-}
-
-fn ceiling_ticks(alloc: Global, core: CoreId, after: &[(Row, u32)]) -> Result<Vec<Block>, Memory>
-    ensures { IfOk result (λ ticks. ticks.items ≡ filter_map (ceiling_tick core) after.now) }
-{
-    let ticks = after.iter().filter_map(|after| ceiling_tick(core, after));
-    gathered(ticks, alloc)
+    let (row, ceiling) = *after;
+    if row.core != core || ceiling == 0 {
+        return None;
+    }
+    let (lane, look, tick) = (Lane::Ceiling(core), Look::Ceiling(ceiling), row.tick as u64);
+    Some(lasting(lane, tick, tick + 1, look, None, None))
 }
 
 /// Adds the blocks of a core's ceilings.
@@ -140,8 +126,8 @@ pub(crate) fn push_ceilings(
 ) -> Added
     ensures { OnOk result (blocks.new.items ≡ blocks.old.items ++ merged (filter_map (ceiling_tick core) ceilings.now)) }
 {
-    let ticks = ceiling_ticks(scene.alloc, core, ceilings)?;
-    push_merged(blocks, &ticks)
+    let ticks = ceilings.iter().filter_map(|after| ceiling_tick(core, after));
+    push_merged(blocks, &gathered(ticks, scene.alloc)?)
 }
 
 // The rows of a tick: each has one for each core.

@@ -1,13 +1,13 @@
 //! A trace of a plan as a picture, in text or in SVG.
 //!
-//! [`draw`] first lists what there is to see: which blocks and events, for which job, resource and ticks. This list,
-//! [`Shapes`], is proved to be what the rows say. Where and how a shape is drawn is tested, and not proved.
+//! [`draw`] first lists what there is to see: which blocks and events, for which job, resource and
+//! ticks. This list, [`Shapes`], is proved to be what the rows say. Where and how a shape is drawn is
+//! tested, and not proved.
 #![tactic(auto)]
 
 mod blocks;
 mod drawing;
 mod elements;
-mod expected;
 mod gathering;
 mod lanes;
 pub mod laws;

@@ -1,7 +1,7 @@
 //! The life of a job: its release, its absolute deadline, and its completion.
 ghost use Rattle.std.specs.Prelude.{◌≡◌, ◌<◌, ◌++◌};
 ghost use Rattle.msrp_plan.specs.Common.{length, IfOk, IsSome, OnOk, done, is_row_of, release_tick};
-ghost use Rattle.msrp_picture.specs.Lives.{after_last, event_of, life_block, life_of, lives, task_lives};
+ghost use Rattle.msrp_picture.specs.Shapes.{after_last, event_of, life_block, life_of, lives, task_lives};
 ghost use Rattle.msrp_picture.specs.Rows.{task_rows};
 
 use crate::Added;

@@ -3,12 +3,12 @@
 use crate::scene::Scene;
 use crate::shapes::{Block, Lane, Look, Moment, Shapes, Violation};
 use crate::windows::Window;
-use crate::words::{Written, res_name, say_ticks, say_verdict};
+use crate::words::{Text, Written, res_name, ticks_words, verdict_words};
 use msrp_plan::{CoreId, Kind, Plan, ResId, Row, TaskId};
 use std::alloc::{AllocError, Global};
 use std::fmt::Display;
 
-// So many ticks are on a line: with its label that is less than 80 columns.
+// The ticks on a line: with its label it has less than 80 columns.
 const LINE_TICKS: u32 = 60;
 
 // The letters of tasks, by their numbers: a plan has at most 64 tasks.
@@ -214,7 +214,7 @@ impl Lines<'_> {
 }
 
 // The number of each tenth tick where it begins, and signs between them.
-fn axis(alloc: Global, from: u32, to: u32) -> Result<String, AllocError> {
+fn axis(alloc: Global, from: u32, to: u32) -> Text {
     let mut axis = String::new(alloc);
     for tick in from..to {
         match tick % 10 {
@@ -250,12 +250,10 @@ fn lines_of<'a>(scene: &'a Scene<'a>, shapes: &'a Shapes) -> Result<Lines<'a>, A
 }
 
 /// A picture in plain text.
-pub(crate) fn text(scene: &Scene<'_>, shapes: &Shapes) -> Result<String, AllocError> {
+pub(crate) fn text(scene: &Scene<'_>, shapes: &Shapes) -> Text {
     let (lines, mut text) = (lines_of(scene, shapes)?, String::new(scene.alloc));
-    say_verdict(&mut text, scene.found)?;
-    text.push_str("\n")?;
-    say_ticks(&mut text, scene)?;
-    text.push_str("\n")?;
+    let (verdict, ticks) = (verdict_words(scene.alloc, scene.found)?, ticks_words(scene)?);
+    write!(text, "{verdict}\n{ticks}\n")?;
     for part in 0..scene.window.ticks().div_ceil(LINE_TICKS) {
         lines.write_part(&mut text, part)?;
     }

@@ -1,12 +1,12 @@
 //! Which ticks are drawn.
 ghost use Rattle.std.specs.Prelude.{◌≡◌};
-ghost use Rattle.msrp_picture.specs.Windows.{window_of, is_at, is_seen};
+ghost use Rattle.msrp_picture.specs.Rows.{window_of, is_at, is_seen};
 
 use crate::Verdict;
 use crate::shapes::{Block, Event};
 use msrp_plan::Plan;
 
-/// Where no last tick is asked for, so many ticks are drawn at most.
+/// The most ticks that are drawn if no last tick is asked for.
 pub const SHORT_RUN: u32 = 200;
 
 /// How a picture is drawn.
@@ -18,7 +18,8 @@ pub enum Style {
     Svg,
 }
 
-/// What is asked for: how it is drawn, and the ticks, from one on and up to another, which is left out.
+/// What is asked for: how it is drawn, and the ticks, from one on and up to another, which is left
+/// out.
 #[derive(Clone, Copy, Debug, PartialEq, Eq)]
 pub struct Asked {
     pub style: Style,
@@ -33,8 +34,8 @@ pub struct Window {
     pub to: u32,
 }
 
-/// The ticks that are asked for. The first is 0 by default. The end is by default that of the plan, but at most
-/// [`SHORT_RUN`] ticks after the first. None where the plan doesn't have such ticks.
+/// The ticks that are asked for. The first is 0 by default. The end is by default that of the plan,
+/// but at most [`SHORT_RUN`] ticks after the first. None if the plan doesn't have these ticks.
 pub fn window_of(plan: &Plan, asked: Asked) -> Option<Window>
     ensures { result ≡ window_of plan.now asked }
 {
@@ -45,7 +46,8 @@ pub fn window_of(plan: &Plan, asked: Asked) -> Option<Window>
     (from < to && to <= plan.ticks()).then_some(Window { from, to })
 }
 
-/// The tick in which the row of this number is expected. Rows count from 1, and each tick has a row for each core.
+/// The tick in which the row of this number is expected. Rows count from 1, and each tick has a row
+/// for each core.
 pub(crate) fn expected_tick(plan: &Plan, row: u32) -> u32 {
     row.saturating_sub(1) / plan.cores()
 }
@@ -58,7 +60,8 @@ fn around(plan: &Plan, tick: u32) -> Window {
     Window { from, to }
 }
 
-/// The ticks that are drawn: the window, but where no ticks are asked for and a rule is violated those around the fault.
+/// The ticks that are drawn: those around the fault if a rule is violated and no ticks are asked
+/// for, and else the window.
 pub(crate) fn shown_window(plan: &Plan, asked: Asked, window: Window, found: Verdict) -> Window {
     match (asked.from, asked.to, found) {
         (None, None, Err(fault)) => around(plan, expected_tick(plan, fault.row)),

@@ -5,12 +5,15 @@ use crate::scene::Scene;
 use crate::shapes::{Block, Event, Look, Moment, Violation};
 use crate::windows::expected_tick;
 use msrp_plan::{JobId, Kind, Plan, ResId, Row, TaskId};
-use std::alloc::AllocError;
+use std::alloc::{AllocError, Global};
 
-/// What a function of text answers: an error where no memory is left for the text.
+/// What a function answers that writes text: an error if no memory is left for it.
 pub(crate) type Written = Result<(), AllocError>;
 
-/// The name of a task; nothing where the plan has no such task.
+/// A text, or an error if no memory is left for it.
+pub(crate) type Text = Result<String, AllocError>;
+
+/// The name of a task; nothing if the plan has no such task.
 pub(crate) fn task_name(plan: &Plan, task: TaskId) -> &str {
     if task.0 < plan.tasks() {
         plan.task_name(task)
@@ -19,7 +22,7 @@ pub(crate) fn task_name(plan: &Plan, task: TaskId) -> &str {
     }
 }
 
-/// The name of a resource; nothing where the plan has no such resource.
+/// The name of a resource; nothing if the plan has no such resource.
 pub(crate) fn res_name(plan: &Plan, res: ResId) -> &str {
     if res.0 < plan.resources() {
         plan.res_name(res)
@@ -28,7 +31,7 @@ pub(crate) fn res_name(plan: &Plan, res: ResId) -> &str {
     }
 }
 
-fn job_words(scene: &Scene<'_>, job: Option<JobId>) -> Result<String, AllocError> {
+fn job_words(scene: &Scene<'_>, job: Option<JobId>) -> Text {
     let Some(job) = job else {
         return format!(in scene.alloc; "no job");
     };
@@ -49,48 +52,56 @@ fn deed(kind: Kind) -> &'static str {
     }
 }
 
-/// Writes the record of a verdict.
-pub(crate) fn say_verdict(text: &mut String, found: Verdict) -> Written {
+/// The record of a verdict.
+pub(crate) fn verdict_words(alloc: Global, found: Verdict) -> Text {
     match found {
-        Ok(()) => text.push_str("good"),
-        Err(fault) => write!(text, "fault,{},{:?}", fault.row, fault.rule),
+        Ok(()) => format!(in alloc; "good"),
+        Err(fault) => format!(in alloc; "fault,{},{:?}", fault.row, fault.rule),
     }
 }
 
-/// Writes what a row does.
-pub(crate) fn say_row(text: &mut String, scene: &Scene<'_>, row: Row) -> Written {
+// Writes the name of a resource after a blank, if there is one.
+fn say_res(text: &mut String, scene: &Scene<'_>, res: Option<ResId>) -> Written {
+    match res {
+        Some(res) => write!(text, " {}", res_name(scene.plan, res)),
+        None => Ok(()),
+    }
+}
+
+/// What a row does.
+pub(crate) fn row_words(scene: &Scene<'_>, row: Row) -> Text {
     if row.job.is_none() {
-        return text.push_str("idle");
+        return format!(in scene.alloc; "idle");
     }
-    let who = job_words(scene, row.job)?;
-    write!(text, "{who} {}", deed(row.kind))?;
-    say_res(text, scene, row.res)?;
+    let mut text = job_words(scene, row.job)?;
+    write!(text, " {}", deed(row.kind))?;
+    say_res(&mut text, scene, row.res)?;
     match row.ahead {
-        Some(ahead) if ahead > 0 => write!(text, ", {ahead} ahead"),
-        _ => Ok(()),
+        Some(ahead) if ahead > 0 => write!(text, ", {ahead} ahead")?,
+        _ => {}
     }
+    Ok(text)
 }
 
-/// Writes which of the plan's ticks are drawn, and in which one the fault is.
-pub(crate) fn say_ticks(text: &mut String, scene: &Scene<'_>) -> Written {
-    let (first, all) = (scene.window.from, scene.plan.ticks());
-    let last = scene.window.to.saturating_sub(1);
-    write!(text, "ticks {first} to {last} of {all}")?;
+/// Which of the plan's ticks are drawn, and in which one the fault is.
+pub(crate) fn ticks_words(scene: &Scene<'_>) -> Text {
+    let (first, last) = (scene.window.from, scene.window.to.saturating_sub(1));
+    let mut text = format!(in scene.alloc; "ticks {first} to {last} of {}", scene.plan.ticks())?;
     if let Err(fault) = scene.found {
         let tick = expected_tick(scene.plan, fault.row);
         write!(text, ", the fault in tick {tick}")?;
     }
-    Ok(())
+    Ok(text)
 }
 
-/// Writes what a block shows.
-pub(crate) fn say_block(text: &mut String, scene: &Scene<'_>, block: &Block) -> Written {
+/// What a block shows.
+pub(crate) fn block_words(scene: &Scene<'_>, block: &Block) -> Text {
     let (first, last) = (block.first, block.end.saturating_sub(1));
-    if first < last {
-        write!(text, "ticks {first} to {last}: ")?;
+    let mut text = if first < last {
+        format!(in scene.alloc; "ticks {first} to {last}: ")?
     } else {
-        write!(text, "tick {first}: ")?;
-    }
+        format!(in scene.alloc; "tick {first}: ")?
+    };
     let who = job_words(scene, block.job)?;
     match block.look {
         Look::Runs => write!(text, "{who} runs")?,
@@ -103,15 +114,8 @@ pub(crate) fn say_block(text: &mut String, scene: &Scene<'_>, block: &Block) -> 
         Look::Late => write!(text, "{who} is past its absolute deadline")?,
         Look::Ceiling(level) => write!(text, "ceiling {level}")?,
     }
-    say_res(text, scene, block.res)
-}
-
-// Writes the name of a resource after a blank, if there is one.
-fn say_res(text: &mut String, scene: &Scene<'_>, res: Option<ResId>) -> Written {
-    match res {
-        Some(res) => write!(text, " {}", res_name(scene.plan, res)),
-        None => Ok(()),
-    }
+    say_res(&mut text, scene, block.res)?;
+    Ok(text)
 }
 
 /// The symbol of a moment, and its words.
@@ -123,21 +127,16 @@ pub(crate) fn moment_words(moment: Moment) -> (&'static str, &'static str) {
     }
 }
 
-/// Writes what an event is.
-pub(crate) fn say_event(text: &mut String, scene: &Scene<'_>, event: &Event) -> Written {
+/// What an event is.
+pub(crate) fn event_words(scene: &Scene<'_>, event: &Event) -> Text {
     let (_, moment) = moment_words(event.moment);
     let (tick, who) = (event.tick, job_words(scene, Some(event.job))?);
-    write!(text, "at {tick}: {moment} of {who}")
+    format!(in scene.alloc; "at {tick}: {moment} of {who}")
 }
 
-/// Writes what is wrong with the first row that violates a rule.
-pub(crate) fn say_violation(
-    text: &mut String,
-    scene: &Scene<'_>,
-    violation: &Violation,
-) -> Written {
-    let (row, rule) = (violation.row, violation.rule);
-    write!(text, "tick {}, core {}: ", row.tick, row.core.0)?;
-    say_row(text, scene, row)?;
-    write!(text, ", which violates rule {rule:?}")
+/// What is wrong with the first row that violates a rule.
+pub(crate) fn violation_words(scene: &Scene<'_>, violation: &Violation) -> Text {
+    let Violation { row, rule } = *violation;
+    let (tick, core, words) = (row.tick, row.core.0, row_words(scene, row)?);
+    format!(in scene.alloc; "tick {tick}, core {core}: {words}, which violates rule {rule:?}")
 }

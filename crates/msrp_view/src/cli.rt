@@ -236,12 +236,8 @@ fn unit_in(word: &str) -> Option<(&str, Unit)> {
         Unit::Millisecond,
         Unit::Second,
     ];
-    for unit in units {
-        if let Some(count) = word.strip_suffix(unit.name()) {
-            return Some((count, unit));
-        }
-    }
-    None
+    let mut units = units.iter();
+    units.find_map(|unit| Some((word.strip_suffix(unit.name())?, *unit)))
 }
 
 /// The length of a tick, if it is given: a whole number above 0, and a unit.

@@ -23,26 +23,16 @@ pub struct Cause {
     pub fault: Fault,
     /// The row that violates the rule.
     pub row: Row,
-    /// The line in which its record begins, where that is known.
+    /// The line in which its record begins, if it is known.
     pub line: Option<u64>,
-    /// The expected row of its core, where the row is in its turn.
+    /// The expected row of its core, if the row is in its turn.
     pub expected: Option<Row>,
-    /// What decided before the row who runs on its core, where the plan has the core.
+    /// What decided before the row who runs on its core, if the plan has the core.
     pub state: Option<CoreState>,
-    /// The cores that had their turns in the expected tick still to come, where the row isn't in
-    /// its turn.
+    /// If the row isn't in its turn, the cores with a turn still to come in the expected tick.
     pub turns: ArrayVec<u32, MOST_TURNS>,
     /// What was noted of the rows before.
     pub notes: Notes,
-}
-
-/// What a verdict rests on.
-#[derive(Debug, Drop)]
-pub enum Ground {
-    /// The cause of a fault at a row.
-    Row(Cause),
-    /// What was noted of all rows, where none has a fault: the run is legal, or rows are missing.
-    End(Notes),
 }
 
 fn push_if(found: &mut ArrayVec<u32, MOST_TURNS>, core: u32, has_turn: bool)
@@ -66,8 +56,8 @@ fn cores_with_turn(plan: &Plan, auditor: &Auditor<'_>) -> ArrayVec<u32, MOST_TUR
 }
 
 /// The cause of the fault of a row, which an auditor has judged. The notes and the state of its
-/// core are those before the row; `expected` is the expected row of its core, where the row is in
-/// its turn; `line` is the line in which the row's record begins, where that is known.
+/// core are those before the row; `expected` is the expected row of its core, if the row is in its
+/// turn; `line` is the line in which the row's record begins, if it is known.
 pub fn cause_of(
     plan: &Plan,
     auditor: &Auditor<'_>,

@@ -2,8 +2,8 @@
 //! that decide it.
 //!
 //! [`Notes`] are kept row by row while an auditor judges a trace; [`cause_of`] makes the cause of a
-//! fault of them. What a cause holds is proved. The words ([`Why`], [`Ended`], [`RefusedRecord`]) are
-//! tested. [`laws`] are theorems about what is noted.
+//! fault of them. What a cause holds is proved. The words ([`Why`], [`Ended`], [`RefusedRecord`])
+//! are tested. [`laws`] are theorems about what is noted.
 #![tactic(auto)]
 
 mod causes;
@@ -15,7 +15,7 @@ mod rows;
 mod telling;
 mod tried;
 
-pub use causes::{Cause, Ground, cause_of};
+pub use causes::{Cause, cause_of};
 pub use exercise::{ResourceCounts, TurnCounts};
 pub use misfits::RefusedRecord;
 pub use notes::{Notes, Numbered, ResourceNotes};

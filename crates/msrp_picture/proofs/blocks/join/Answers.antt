@@ -1,7 +1,6 @@
 use Rattle.std.proofs.Common.{◌≡◌, ◌∷◌, ◌++◌, ◌∙◌}
 use Rattle.msrp_plan.proofs.Common.{true, false, cond, List, ap, append_assoc, sym, rules, []}
-use Rattle.msrp_picture.specs.Types.{Block}
-use Rattle.msrp_picture.specs.Blocks.{goes_on, joined}
+use Rattle.msrp_picture.proofs.Common.{Block, goes_on, joined}
 use Rattle.msrp_picture.proofs.blocks.join.Goals as goal
 
 -- a block is continued by the next one, or ends before that

@@ -1,7 +1,6 @@
 use Rattle.std.proofs.Common.{◌≡◌, ◌≤◌, ◌++◌, ◌∙◌, ◌∷◌}
 use Rattle.msrp_plan.proofs.Common.{ℕ, List, length, drop, ap, arith, sym, drop_all, rules, []}
-use Rattle.msrp_picture.specs.Types.{Block}
-use Rattle.msrp_picture.specs.Blocks.{joined}
+use Rattle.msrp_picture.proofs.Common.{Block, joined}
 use Rattle.msrp_picture.proofs.blocks.push_joined.Goals as goal
 
 -- the last one, where none is left

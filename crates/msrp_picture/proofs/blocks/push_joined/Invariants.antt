@@ -1,6 +1,6 @@
 use Rattle.std.proofs.Common.{◌≡◌, ◌++◌}
 use Rattle.msrp_plan.proofs.Common.{drop}
-use Rattle.msrp_picture.specs.Blocks.{joined}
+use Rattle.msrp_picture.proofs.Common.{joined}
 use Rattle.msrp_picture.proofs.blocks.push_joined.Given as goal
 
 abbrev pub invariant-loop-next : goal.invariant-loop-next

@@ -1,8 +1,6 @@
 use Rattle.std.proofs.Common.{◌++◌, ◌∙◌, filter_map}
 use Rattle.msrp_plan.proofs.Common.{ℕ, List, ap}
-use Rattle.msrp_picture.specs.Types.{Row}
-use Rattle.msrp_picture.specs.Blocks.{merged}
-use Rattle.msrp_picture.specs.Lanes.{ceiling_tick}
+use Rattle.msrp_picture.proofs.Common.{Row, ceiling_tick, merged}
 use Rattle.msrp_picture.proofs.Growing.{grows, grows-each}
 use Rattle.msrp_picture.proofs.drawing.push_cores.Goals as goal
 

@@ -1,7 +1,6 @@
 use Rattle.std.proofs.Common.{◌≡◌, ◌++◌, filter_map}
 use Rattle.msrp_plan.proofs.Common.{ℕ, [], flat_map, range_with_len}
-use Rattle.msrp_picture.specs.Blocks.{merged, row_blocks}
-use Rattle.msrp_picture.specs.Lanes.{ceiling_tick, ceilings}
+use Rattle.msrp_picture.proofs.Common.{ceiling_tick, ceilings, merged, row_blocks}
 use Rattle.msrp_picture.specs.declared.shapes.Lane.TheVariants.{Core}
 use Rattle.msrp_picture.proofs.drawing.push_cores.Given as goal
 

@@ -1,7 +1,6 @@
 use Rattle.std.proofs.Common.{◌≡◌, ◌++◌, filter}
 use Rattle.msrp_plan.proofs.Common.{ℕ, flat_map, range_with_len, is_global}
-use Rattle.msrp_picture.specs.Blocks.{merged}
-use Rattle.msrp_picture.specs.Lanes.{queue_ticks}
+use Rattle.msrp_picture.proofs.Common.{merged, queue_ticks}
 use Rattle.msrp_picture.proofs.drawing.push_queues.Given as goal
 
 abbrev pub invariant-loop-res : goal.invariant-loop-res

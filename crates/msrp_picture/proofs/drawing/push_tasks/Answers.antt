@@ -1,8 +1,6 @@
 use Rattle.std.proofs.Common.{◌++◌, ◌∙◌}
 use Rattle.msrp_plan.proofs.Common.{ℕ, List, ap}
-use Rattle.msrp_picture.specs.Types.{Row}
-use Rattle.msrp_picture.specs.Lanes.{sections}
-use Rattle.msrp_picture.specs.Rows.{ticks_begun}
+use Rattle.msrp_picture.proofs.Common.{Row, sections, ticks_begun}
 use Rattle.msrp_picture.proofs.Growing.{grows, grows-each}
 use Rattle.msrp_picture.proofs.drawing.push_tasks.Goals as goal
 

@@ -1,8 +1,6 @@
 use Rattle.std.proofs.Common.{◌≡◌, ◌++◌}
 use Rattle.msrp_plan.proofs.Common.{ℕ, flat_map, range_with_len}
-use Rattle.msrp_picture.specs.Blocks.{row_blocks}
-use Rattle.msrp_picture.specs.Lanes.{sections}
-use Rattle.msrp_picture.specs.Rows.{task_rows, ticks_begun}
+use Rattle.msrp_picture.proofs.Common.{row_blocks, sections, task_rows, ticks_begun}
 use Rattle.msrp_picture.specs.declared.shapes.Lane.TheVariants.{Task}
 use Rattle.msrp_picture.proofs.drawing.push_tasks.Given as goal
 

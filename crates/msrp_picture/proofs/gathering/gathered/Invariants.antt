@@ -1,6 +1,6 @@
 use Rattle.std.proofs.Common.{◌≡◌}
 use Rattle.msrp_plan.proofs.Common.{length}
-use Rattle.std.specs.Vec.{vec_len}
+use Rattle.msrp_picture.proofs.Common.{vec_len}
 use Rattle.msrp_picture.proofs.gathering.gathered.Given as goal
 
 abbrev pub invariant-loop-item : goal.invariant-loop-item

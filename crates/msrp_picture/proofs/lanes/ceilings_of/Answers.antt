@@ -1,8 +1,6 @@
 use Rattle.std.proofs.Common.{◌≡◌, ◌+◌, ◌∷◌, ◌++◌, ◌∙◌}
 use Rattle.msrp_plan.proofs.Common.{ℕ, List, None, Option, PlanModel, Some, [], ap, append_assoc, append-nil, arith, cons_option, drop, drop_all, drop_more, refl, subst, sym, take, take_more}
-use Rattle.msrp_audit.specs.Audits.{HasFed}
-use Rattle.msrp_picture.specs.Types.{Row}
-use Rattle.msrp_picture.specs.Lanes.{ceiling_after, ceilings}
+use Rattle.msrp_picture.proofs.Common.{HasFed, Row, ceiling_after, ceilings}
 use Rattle.msrp_picture.proofs.lanes.ceilings_of.Goals as goal
 
 -- one row more

@@ -1,7 +1,6 @@
 use Rattle.std.proofs.Common.{◌≡◌, ◌++◌}
 use Rattle.msrp_plan.proofs.Common.{[], take, drop}
-use Rattle.msrp_audit.specs.Audits.{HasFed}
-use Rattle.msrp_picture.specs.Lanes.{ceilings}
+use Rattle.msrp_picture.proofs.Common.{HasFed, ceilings}
 use Rattle.msrp_picture.proofs.lanes.ceilings_of.Given as goal
 
 abbrev pub invariant-loop-row : goal.invariant-loop-row

@@ -1,13 +1,7 @@
 use Rattle.std.proofs.Common.{◌≡◌, ◌<◌, ◌++◌, ◌∷◌, ◌∙◌, is_err, IsSomeAnd}
 use Rattle.msrp_plan.proofs.Common.{ℕ, Bool, None, Option, PlanModel, Result, Some, List, [], ⊤, and_parts, ap, cond, cons_option, fault_in, fault_or, false, is_in_turn, is_none, length, log_of, ltb-true, nat_lt, option_or, refl, rules, subst, sym, true, true≢false}
-use Rattle.msrp_plan.proofs.Runs.Verdicts.{fault_append}
-use Rattle.msrp_plan.specs.Ceiling.{ceiling}
-use Rattle.msrp_plan.specs.declared.faults.Fault.{Fault}
-use Rattle.msrp_plan.specs.declared.faults.Rule.{Rule}
+use Rattle.msrp_picture.proofs.Common.{Fault, IsCoreState, Row, Rule, answer_of, ceiling, fault_append}
 use Rattle.msrp_plan.specs.declared.faults.Rule.TheVariants.{A1, A7}
-use Rattle.msrp_audit.specs.Audits.{answer_of}
-use Rattle.msrp_core.specs.CoreStates.{IsCoreState}
-use Rattle.msrp_picture.specs.Types.{Row}
 use Rattle.msrp_picture.proofs.lanes.push_ceiling.Goals as goal
 
 -- a row that isn't refused is one of a core

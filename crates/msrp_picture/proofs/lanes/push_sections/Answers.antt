@@ -1,6 +1,6 @@
 use Rattle.msrp_plan.proofs.Common.{ℕ, ap, drop, take_rest}
 use Rattle.std.proofs.Common.{◌++◌, ◌∙◌}
-use Rattle.msrp_picture.specs.Lanes.{first_section}
+use Rattle.msrp_picture.proofs.Common.{first_section}
 use Rattle.msrp_picture.proofs.Growing.{grows-each}
 use Rattle.msrp_picture.proofs.lanes.push_sections.Goals as goal
 

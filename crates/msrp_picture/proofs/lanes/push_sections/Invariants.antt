@@ -1,6 +1,6 @@
 use Rattle.std.proofs.Common.{◌≡◌, ◌++◌}
 use Rattle.msrp_plan.proofs.Common.{ℕ, drop, flat_map, range_with_len}
-use Rattle.msrp_picture.specs.Lanes.{first_section}
+use Rattle.msrp_picture.proofs.Common.{first_section}
 use Rattle.msrp_picture.proofs.lanes.push_sections.Given as goal
 
 abbrev pub invariant-loop-place : goal.invariant-loop-place

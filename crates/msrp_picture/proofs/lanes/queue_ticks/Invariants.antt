@@ -1,7 +1,6 @@
 use Rattle.std.proofs.Common.{◌≡◌, ◌+◌, ◌*◌}
 use Rattle.msrp_plan.proofs.Common.{ℕ, take, flat_map, range_with_len, fifo}
-use Rattle.msrp_plan.specs.Requests.{HasTaken}
-use Rattle.msrp_picture.specs.Lanes.{first_of}
+use Rattle.msrp_picture.proofs.Common.{HasTaken, first_of}
 use Rattle.msrp_picture.proofs.lanes.queue_ticks.Given as goal
 
 abbrev pub invariant-loop-tick : goal.invariant-loop-tick

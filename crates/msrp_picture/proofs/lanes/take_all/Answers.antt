@@ -1,7 +1,6 @@
 use Rattle.std.proofs.Common.{◌≡◌, ◌+◌, ◌++◌, ◌∷◌, ◌∙◌}
 use Rattle.msrp_plan.proofs.Common.{[], List, take, subst, sym, ap, append_assoc, arith, take_more}
-use Rattle.msrp_plan.specs.Requests.{HasTaken}
-use Rattle.msrp_picture.specs.Types.{Row}
+use Rattle.msrp_picture.proofs.Common.{HasTaken, Row}
 use Rattle.msrp_picture.proofs.lanes.take_all.Goals as goal
 
 pub loop-row-preserved : goal.loop-row-preserved

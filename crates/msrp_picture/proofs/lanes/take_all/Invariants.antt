@@ -1,7 +1,6 @@
 use Rattle.std.proofs.Common.{◌++◌}
 use Rattle.msrp_plan.proofs.Common.{ℕ, List, take}
-use Rattle.msrp_plan.specs.Requests.{HasTaken}
-use Rattle.msrp_picture.specs.Types.{Row}
+use Rattle.msrp_picture.proofs.Common.{HasTaken, Row}
 use Rattle.msrp_picture.proofs.lanes.take_all.Given as goal
 
 abbrev pub invariant-loop-row : goal.invariant-loop-row

@@ -1,10 +1,7 @@
 -- Blocks, taken apart into their ticks.
 use Rattle.std.proofs.Common.{◌≡◌, ◌+◌, ◌-◌, ◌≤◌, ◌∷◌, ◌++◌, ◌∙◌}
 use Rattle.msrp_plan.proofs.Common.{option_map, ℕ, Bool, true, false, cond, List, [], Option, Some, None, map, append_assoc, ap, refl, sym, arith, and_parts, map-append, AllByRecursion, cons_option, flat_map, range_with_len, same_choice_is, same_res_is, range_more, same_kind_is}
-use Rattle.std.proofs.lemmas.Bool.{eqb-true}
-use Rattle.msrp_picture.specs.Types.{JobId, Lane, Look, ResId, Row, Block}
-use Rattle.msrp_picture.specs.Blocks.{goes_on, joined, look_of, merged, same_look}
-use Rattle.msrp_picture.specs.Laws.{shown_rows, ticks_of}
+use Rattle.msrp_picture.proofs.Common.{Block, JobId, Lane, Look, ResId, Row, eqb-true, goes_on, joined, look_of, merged, same_look, shown_rows, ticks_of}
 use Rattle.msrp_picture.specs.declared.shapes.Look.TheVariants.{Ceiling, Does, First, Runs}
 use Rattle.msrp_picture.proofs.laws.each_row_in_one_block.Goals as goal
 

@@ -1,10 +1,7 @@
 -- The rows of a job among those of its task.
-use Rattle.msrp_plan.proofs.Common.{fold, not, sym, eq-eqb, ne_eqb, ℕ, Bool, true, false, List, Option, Some, None, refl, ap, cond, nat_eq, all_of, filter_within, done, is_finished, is_job, is_row_of, is_waiting, release, task_of}
+use Rattle.msrp_plan.proofs.Common.{fold, not, sym, eq-eqb, ne_eqb, ℕ, Bool, true, false, List, Option, Some, None, PlanModel, refl, ap, cond, nat_eq, length, all_of, filter_within, done, is_finished, is_job, is_row_of, is_waiting, release, task_of, units}
 use Rattle.std.proofs.Common.{◌&&◌, ◌==◌, ◌+◌, ◌≡◌, ◌∙◌}
-use Rattle.msrp_plan.proofs.Lists.Filters.{count_within}
-use Rattle.msrp_picture.specs.Types.{JobId, Life, Row}
-use Rattle.msrp_picture.specs.Rows.{is_job_of, task_rows, ticks_begun}
-use Rattle.msrp_picture.specs.Lives.{after_last}
+use Rattle.msrp_picture.proofs.Common.{JobId, Row, after_last, count_within, is_job_of, life_of, task_rows, ticks_begun}
 use Rattle.msrp_picture.proofs.lives.life_of.Goals as goal
 
 left : (a b : Bool) → a && b ≡ true → a ≡ true
@@ -24,36 +21,22 @@ done-of-task j rows =
     let own = λ (r : Row). is_job_of j.task.0 r.job in
     count_within p own rows (all_of (λ r. p r ≡ true → own r ≡ true) (λ r e. of-task j r.job (left (is_row_of j r) (not (is_waiting r.kind)) e)) rows)
 
--- the same, where these are the rows of its task
-done_same : (j : JobId) (rows own : List Row) → own ≡ task_rows j.task.0 rows → done j own ≡ done j rows
-done_same j rows own e = ap (done j) e ∙ done-of-task j rows
-
-last_same : (j : JobId) (rows own : List Row) → own ≡ task_rows j.task.0 rows → after_last j own ≡ after_last j rows
-last_same j rows own e = ap (after_last j) e ∙ last-of-task j rows
-
--- lives of the same parts
-abbrev life : JobId → ℕ → ℕ → Bool → ℕ → Life
-life j r d f e = record { job = j; release = r; deadline = r + d; is_finished = f; end = e }
-
-same_life : (j : JobId) (r s d t e u : ℕ) (f g : Bool) → r ≡ s → d ≡ t → f ≡ g → e ≡ u → life j r d f e ≡ life j s t g u
-same_life j r s d t e u f g release due finished end = cc
+-- a life by the rows of the job's task
+life-is : (plan : PlanModel) (rows own : List Row) (j : JobId) (r d e : ℕ) (b : Bool) → own ≡ task_rows j.task.0 rows → r ≡ release plan j → d ≡ (task_of plan j).deadline → b ≡ nat_eq (done j own) (length (units plan j))
+    → e ≡ cond b (after_last j own) (ticks_begun plan rows) → record { job = j; release = r; deadline = r + d; end = e; is_finished = b } ≡ life_of plan rows j
+life-is plan rows own j r d e b task released due done_is ends =
+    let finished : b ≡ is_finished plan rows j = done_is ∙ ap (λ n. nat_eq n (length (units plan j))) (ap (done j) task ∙ done-of-task j rows) in
+    let end = ends ∙ ap (λ n. cond b n (ticks_begun plan rows)) (ap (after_last j) task ∙ last-of-task j rows) ∙ ap (λ c. cond c (after_last j rows) (ticks_begun plan rows)) finished in
+    cc
 
 pub returns-then-is_finished : goal.returns-then-is_finished
 returns-then-is_finished c =
-    let plan = c.args.scene.now.plan.now in
-    let rows = c.args.scene.now.rows.now in
-    let own = c.args.own.now in
-    let j = c.args.job in
-    let finished = ap (λ (n : ℕ). nat_eq n c.units.result) (c.done.ensures ∙ done_same j rows own c.requires.rows) ∙ ap (λ (n : ℕ). nat_eq (done j rows) n) c.units.ensures in
-    let end = c.after_last.ensures ∙ last_same j rows own c.requires.rows ∙ ap (λ (b : Bool). cond b (after_last j rows) (ticks_begun plan rows)) (sym (eq-eqb c.done.result c.units.result c.if-is_finished.true) ∙ finished) in
-    same_life j _ (release plan j) _ (task_of plan j).deadline _ _ _ (is_finished plan rows j) c.release-release.ensures.value c.deadline.ensures finished end
+    let done_is = ap (λ n. nat_eq n c.units.result) c.done.ensures ∙ ap (nat_eq (done c.args.job c.args.own.now)) c.units.ensures in
+    let end = c.after_last.ensures ∙ ap (λ b. cond b (after_last c.args.job c.args.own.now) (ticks_begun c.args.scene.now.plan.now c.args.scene.now.rows.now)) (sym (eq-eqb c.done.result c.units.result c.if-is_finished.true)) in
+    life-is _ c.args.scene.now.rows.now c.args.own.now c.args.job _ _ _ _ c.requires.rows c.release-release.ensures.value c.deadline.ensures done_is end
 
 pub returns-else-is_finished : goal.returns-else-is_finished
 returns-else-is_finished c =
-    let plan = c.args.scene.now.plan.now in
-    let rows = c.args.scene.now.rows.now in
-    let own = c.args.own.now in
-    let j = c.args.job in
-    let finished = ap (λ (n : ℕ). nat_eq n c.units.result) (c.done.ensures ∙ done_same j rows own c.requires.rows) ∙ ap (λ (n : ℕ). nat_eq (done j rows) n) c.units.ensures in
-    let end = c.ticks_begun.ensures ∙ ap (λ (b : Bool). cond b (after_last j rows) (ticks_begun plan rows)) (sym (ne_eqb c.done.result c.units.result c.if-is_finished.false) ∙ finished) in
-    same_life j _ (release plan j) _ (task_of plan j).deadline _ _ _ (is_finished plan rows j) c.release-release.ensures.value c.deadline.ensures finished end
+    let done_is = ap (λ n. nat_eq n c.units.result) c.done.ensures ∙ ap (nat_eq (done c.args.job c.args.own.now)) c.units.ensures in
+    let end = c.ticks_begun.ensures ∙ ap (λ b. cond b (after_last c.args.job c.args.own.now) (ticks_begun c.args.scene.now.plan.now c.args.scene.now.rows.now)) (sym (ne_eqb c.done.result c.units.result c.if-is_finished.false)) in
+    life-is _ c.args.scene.now.rows.now c.args.own.now c.args.job _ _ _ _ c.requires.rows c.release-release.ensures.value c.deadline.ensures done_is end

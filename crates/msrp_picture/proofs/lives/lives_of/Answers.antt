@@ -1,5 +1,5 @@
 use Rattle.msrp_plan.proofs.Common.{[]}
-use Rattle.msrp_picture.specs.Lives.{task_lives}
+use Rattle.msrp_picture.proofs.Common.{task_lives}
 use Rattle.msrp_picture.proofs.Growing.{grows-each}
 use Rattle.msrp_picture.proofs.lives.lives_of.Goals as goal
 

@@ -1,6 +1,6 @@
 use Rattle.std.proofs.Common.{◌≡◌}
 use Rattle.msrp_plan.proofs.Common.{flat_map, range_with_len}
-use Rattle.msrp_picture.specs.Lives.{task_lives}
+use Rattle.msrp_picture.proofs.Common.{task_lives}
 use Rattle.msrp_picture.proofs.lives.lives_of.Given as goal
 
 abbrev pub invariant-loop-task : goal.invariant-loop-task

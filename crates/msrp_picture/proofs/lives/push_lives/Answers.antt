@@ -1,7 +1,6 @@
 use Rattle.msrp_plan.proofs.Common.{rules, ℕ, List, [], ap, arith, map, range_with_len, sym, job_at}
 use Rattle.std.proofs.Common.{◌≡◌, ◌∷◌, ◌++◌, ◌∙◌}
-use Rattle.msrp_picture.specs.Types.{JobId}
-use Rattle.msrp_picture.specs.Lives.{life_of}
+use Rattle.msrp_picture.proofs.Common.{JobId, life_of}
 use Rattle.msrp_picture.proofs.Growing.{grows-map2}
 use Rattle.msrp_picture.proofs.lives.push_lives.Goals as goal
 

@@ -1,6 +1,6 @@
 use Rattle.std.proofs.Common.{◌≡◌, ◌++◌}
 use Rattle.msrp_plan.proofs.Common.{map, range_with_len, job_at}
-use Rattle.msrp_picture.specs.Lives.{life_of}
+use Rattle.msrp_picture.proofs.Common.{life_of}
 use Rattle.msrp_picture.proofs.lives.push_lives.Given as goal
 
 abbrev pub invariant-loop-k : goal.invariant-loop-k
