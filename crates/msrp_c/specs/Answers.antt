@@ -62,7 +62,7 @@ abbrev pub unfailed : {A : Type 0} → Result A CliFault → Result A CliFault
 unfailed (Ok made) = Ok made
 unfailed (Err fault) = Err (or_memory fault)
 
--- if a text is too long a read fails, whatever is in it; otherwise none does
+-- if a text is too long a read fails; otherwise none does
 abbrev pub told_as : {A : Type 0} → Bool → Result A CliFault → Result A CliFault
 told_as true made = Err Read
 told_as false made = unfailed made

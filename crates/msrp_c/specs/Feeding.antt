@@ -41,7 +41,7 @@ pub record AreGood (plan : PlanModel) (turns : List MsrpRow) (auditor : AuditorM
   pub good : fault_in plan rows ≡ None
   pub few : length rows ≤ plan.cores * plan.ticks
 
--- this is found in the turns; if it isn't good, it is found whatever follows
+-- this is found in the turns; if it isn't good, more turns don't change it
 pub record IsFound (plan : PlanModel) (turns : List MsrpRow) (auditor : AuditorModel) (found : Finding) : Type 0 where
   pub so_far : found ≡ found_so_far plan turns
   pub stays : (found ≡ Ok (Ok tt) → ⊥) → (more : List MsrpRow) → (found ≡ found_so_far plan (turns ++ more)) × (found ≡ found_whole plan (turns ++ more))
@@ -51,8 +51,8 @@ pub record IsFound (plan : PlanModel) (turns : List MsrpRow) (auditor : AuditorM
 abbrev pub Steps : PlanModel → AuditorModel → MsrpRow → ℕ → AuditorModel → Finding → Type 0
 Steps plan old turn number new found = (turns : List MsrpRow) → old.plan ≡ plan → AreGood plan turns old → number ≡ length turns + 1 → IsFound plan (turns ++ turn ∷ []) new found
 
--- a row after these turns has this fault; where it is in its turn, the row that was due of its core
--- is told
+-- a row after these turns has this fault; if it is in its turn, the expected row of its core comes
+-- with it
 pub record IsBrokenAfter (plan : PlanModel) (turns : List MsrpRow) (turn : MsrpRow) (fault : Fault) (b : BrokenRow) : Type 0 where
   pub rows : List Row
   pub read : map (row_of plan) turns ≡ map (λ r. Ok r) rows

@@ -31,7 +31,7 @@ pub record TellsNumber (what : Result ℕ CliFault) (old new : ℕ) (found : Msr
   pub kept : IfErr what (λ fault. new ≡ old)
   pub tells : Tells (found_with what) found status
 
--- the expected number is told, with status 5 exactly if the plan's text is too long
+-- the expected number is answered, with status 5 exactly if the plan's text is too long
 pub record AnswersNumber (long : Bool) (expected : Result ℕ CliFault) (old new : ℕ) (found : MsrpFound) (status : ℕ) : Type 0 where
   pub what : Result ℕ CliFault
   pub is : long ≡ false → OrUnread what (what ≡ expected)

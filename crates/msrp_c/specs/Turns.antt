@@ -88,7 +88,7 @@ told_in turns = record {
 abbrev pub finding_in : Bool → PlanModel → Told → Result (Result ⊤ Fault) CliFault
 finding_in so_far plan told = found_first (fault_in plan told.rows) told.refusal (if so_far then None else verdict plan told.rows)
 
--- a refused plan has its refusal, whatever the rows
+-- a refused plan has its refusal with any rows
 abbrev pub finding_of_turns : Bool → Result PlanModel TextError → List MsrpRow → Result (Result ⊤ Fault) CliFault
 finding_of_turns so_far (Ok plan) turns = finding_in so_far plan (told_in (map (row_of plan) turns))
 finding_of_turns so_far (Err error) turns = Err (fault_of error)

@@ -20,7 +20,7 @@ abbrev pub refusal_in : Result Words CliFault → Result (Result ⊤ Fault) CliF
 refusal_in (Ok words) = words.found
 refusal_in (Err fault) = Err fault
 
--- the words; where a fault is told there are none
+-- the words; a fault has none
 abbrev pub words_in : Result Words CliFault → List ℕ
 words_in (Ok words) = words.text.items
 words_in (Err fault) = []

@@ -15,8 +15,8 @@ use crate::turns::MsrpRow;
 use msrp_hosted::Turned;
 use std::alloc::Global;
 
-// The turn of the core that a handle holds, if it is let in. What is no core is told as one in its
-// turn.
+// The turn of the core that a handle holds, if it is let in. What is not a core is answered as one
+// in its turn.
 fn turn(content: &mut Content) -> Turned
     ensures waited { IfSome (core_in (Some content.old)) (λ old. (turn : TurnAt) → result ≡ Answer.Turn turn → old.step ≡ Step.Waiting) }
     ensures turn { IfSome (core_in (Some content.old)) (λ old. (turn : TurnAt) → result ≡ Answer.Turn turn → core_in (Some content.new) ≡ Some (record old { turns = old.turns ++ turn ∷ []; step = Step.InTurn })) }

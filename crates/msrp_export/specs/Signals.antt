@@ -1,6 +1,6 @@
 -- What the rows of a trace say of a core, of a task and of a resource.
 use Rattle.std.specs.Prelude.{◌==◌, ◌&&◌, ◌||◌, if◌then◌else◌, ◌/◌, ◌≡◌, ◌<◌, ◌+◌, ◌-◌, ◌*◌}
-use Rattle.msrp_plan.specs.Common.{ℕ, List, Bool, true, false, not, nat_lt, nat_le, Option, Some, None, fold, count_by, length, PlanModel, key, task_at, is_released, is_waiting, job_at, log_of, fifo, is_on, is_some, slice_index_or, most_cores, most_resources, most_tasks, is_grant, is_release, is_release_of, is_request, same_kind, take, nat_eq, option_map, IsPlan}
+use Rattle.msrp_plan.specs.Common.{ℕ, List, Bool, false, not, nat_lt, nat_le, Option, Some, None, fold, count_by, length, PlanModel, key, task_at, is_released, is_waiting, job_at, log_of, fifo, is_on, is_some, slice_index_or, most_cores, most_resources, most_tasks, is_grant, is_release, is_release_of, is_request, same_kind, take, nat_eq, option_map, IsPlan}
 use Rattle.msrp_plan.specs.declared.ids.JobId.{JobId}
 use Rattle.msrp_plan.specs.declared.rows.Kind.{Kind}
 use Rattle.msrp_plan.specs.declared.rows.Kind.TheVariants.{Lock, Unlock, Take}
@@ -65,17 +65,11 @@ abbrev pub released_state : Bool → Option Row → TaskState
 released_state holds None = if holds then Holding else Ready
 released_state holds (Some r) = if is_waiting r.kind then Spinning else (if holds then Holding else Running)
 
--- the state in a tick of the job that the task is at when the tick begins
-abbrev pub task_state : PlanModel → List Row → List Row → ℕ → ℕ → TaskState
-task_state plan before rows tick t =
-    if is_released plan tick (job_after plan before t) then
-    released_state (nat_lt (given_up t rows) (acquired t rows)) (row_in tick t (last_row (task_at plan t).core rows)) else Unreleased
-
--- all that a task does in a tick, by the rows before the tick and those up to its end; the job is
--- late from its absolute deadline on
+-- all that a task does in a tick, by the rows before the tick and those up to its end. The job is
+-- the one that the task is at when the tick begins; it is late from its absolute deadline on
 abbrev pub task_status : PlanModel → List Row → List Row → ℕ → ℕ → TaskStatus
 task_status plan before rows tick t = record {
-  state = task_state plan before rows tick t;
+  state = if is_released plan tick (job_after plan before t) then released_state (nat_lt (given_up t rows) (acquired t rows)) (row_in tick t (last_row (task_at plan t).core rows)) else Unreleased;
   job = job_after plan before t;
   late = nat_le (key plan (job_after plan before t)).deadline tick;
   row = row_in tick t (last_row (task_at plan t).core rows);
@@ -87,13 +81,9 @@ task_status plan before rows tick t = record {
 abbrev pub holder_by : Option JobId → Row → Option JobId
 holder_by held r = if acquires r.kind then r.job else (if gives_up r.kind then None else held)
 
--- the holder of a resource after one more row
-abbrev pub holder_with : ℕ → Option JobId → Row → Option JobId
-holder_with g held r = if is_on g r.res then holder_by held r else held
-
 -- the job that was last given the resource, unless it has given it up
 abbrev pub holder : ℕ → List Row → Option JobId
-holder g rows = fold (holder_with g) None rows
+holder g rows = fold (λ held r. if is_on g r.res then holder_by held r else held) None rows
 
 -- the row is a request of a job for the resource
 abbrev pub is_request_of : ℕ → Row → Bool

@@ -1,7 +1,7 @@
 //! The signals of a dump: those of each track, and their names.
 
-use crate::names::{resource_name, task_name};
 use crate::signals::Track;
+use msrp_advice::{res_name, task_name};
 use msrp_plan::{Plan, ResId};
 use std::fmt;
 
@@ -53,7 +53,7 @@ impl fmt::Display for TrackName<'_> {
         match self.1 {
             Track::Core(core) => write!(f, "core_{}", core.0),
             Track::Task(task) => f.write_str(task_name(self.0, task)),
-            Track::Resource(res) => f.write_str(resource_name(self.0, Some(res))),
+            Track::Resource(res) => f.write_str(res_name(self.0, res)),
         }
     }
 }

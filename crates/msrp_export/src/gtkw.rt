@@ -1,5 +1,5 @@
-//! The save file of a dump, with which GTKWave shows all signals: first the fault, then those of each
-//! core and of its tasks, and last those of resources.
+//! The save file of a dump, with which GTKWave shows all signals: first the fault, then those of
+//! each core and of its tasks, and last those of resources.
 
 use crate::dump_signals::{TrackName, signals_of};
 use crate::signals::Track;

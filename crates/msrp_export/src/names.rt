@@ -2,24 +2,13 @@
 
 use crate::tasks::TaskState;
 use bstr::ByteSlice;
-use msrp_plan::{JobId, Plan, ResId, Row, TaskId};
+use msrp_advice::{res_name, task_name};
+use msrp_plan::{JobId, Plan, ResId, Row};
 use std::fmt;
 
-/// The name of a task; a dash where the plan has no such task.
-pub(crate) fn task_name(plan: &Plan, task: TaskId) -> &str {
-    if task.0 < plan.tasks() {
-        plan.task_name(task)
-    } else {
-        "-"
-    }
-}
-
-/// The name of a resource; a dash where there is none, or the plan has no such resource.
+/// The name of a resource; a dash if there is none.
 pub(crate) fn resource_name(plan: &Plan, resource: Option<ResId>) -> &str {
-    match resource {
-        Some(resource) if resource.0 < plan.resources() => plan.res_name(resource),
-        _ => "-",
-    }
+    resource.map_or("-", |resource| res_name(plan, resource))
 }
 
 /// The word for what a task does.
@@ -33,7 +22,7 @@ pub(crate) fn state_name(state: TaskState) -> &'static str {
     }
 }
 
-/// A job, as `task.number`; a dash where there is none.
+/// A job, as `task.number`; a dash if there is none.
 #[derive(Clone, Copy)]
 pub(crate) struct JobName<'a>(pub(crate) &'a Plan, pub(crate) Option<JobId>);
 
@@ -46,7 +35,7 @@ impl fmt::Display for JobName<'_> {
     }
 }
 
-/// The row that violates a rule: core, kind, job and resource; a dash where a row is missing.
+/// The row that violates a rule: core, kind, job and resource; a dash if a row is missing.
 #[derive(Clone, Copy)]
 pub(crate) struct FaultyRow<'a>(pub(crate) &'a Plan, pub(crate) Option<Row>);
 

@@ -1,11 +1,12 @@
 //! The JSON of trace events, as Perfetto and Chrome read it; a tick is one microsecond. Names need
 //! no escapes, since a plan's names have letters, digits and `_` only.
 
-use crate::names::{FaultyRow, JobName, resource_name, state_name, task_name};
+use crate::names::{FaultyRow, JobName, resource_name, state_name};
 use crate::signals::{Change, State, Track};
 use crate::tasks::{TaskState, TaskStatus};
 use crate::walk::Written;
 use bstr::ByteSlice;
+use msrp_advice::{res_name, task_name};
 use msrp_plan::{JobId, Kind, Plan, ResId, Row, Rule};
 use std::fmt::{Display, Write};
 
@@ -42,7 +43,7 @@ pub(crate) fn write_track(text: &mut String, plan: &Plan, track: Track) -> Writt
     match track {
         Track::Core(core) => write!(text, "core {}", core.0)?,
         Track::Task(task) => text.push_str(task_name(plan, task))?,
-        Track::Resource(res) => text.push_str(resource_name(plan, Some(res)))?,
+        Track::Resource(res) => text.push_str(res_name(plan, res))?,
     }
     text.push_str(r#""}}"#)?;
     begin_event(text, 'M', track)?;
@@ -147,7 +148,7 @@ fn begin_slice(text: &mut String, change: &Change<'_>, slice: Option<Slice>) -> 
     }
 }
 
-// Writes that the job reaches its deadline, or that the task comes to a job that is past its deadline.
+// Writes that the job reaches its deadline, or that the task comes to a job that is past it.
 fn write_missed_deadline(text: &mut String, change: &Change<'_>, now: TaskStatus) -> Written {
     let was_late =
         matches!(change.before, Some(State::Task(last)) if last.late && last.job == now.job);
@@ -160,8 +161,8 @@ fn write_missed_deadline(text: &mut String, change: &Change<'_>, now: TaskStatus
     end_event(text, &"deadline missed", job)
 }
 
-// Writes the beginning of an arrow at a request that joins a queue, or its end at the grant. Each request has an arrow of
-// its own: its number is made of the task and the units that the task had done.
+// Writes the beginning of an arrow at a request that joins a queue, or its end at the grant. The
+// number of a request's arrow is made of the task and the units that the task had done.
 fn write_arrow(text: &mut String, change: &Change<'_>, now: TaskStatus) -> Written {
     let (row, phase, end) = match now.row {
         Some(row) if row.kind == Kind::Queue => (row, 's', "}"),

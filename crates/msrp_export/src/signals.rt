@@ -61,7 +61,8 @@ pub(crate) enum State {
     Resource(ResourceState),
 }
 
-// The state on a track in a tick, by the rows before the tick and those up to its end. A core has none before its first row.
+// The state on a track in a tick, by the rows before the tick and those up to its end. A core has
+// none before its first row.
 fn state_of(
     plan: &Plan,
     before: &Summary,

@@ -22,12 +22,12 @@ pub(crate) fn begin_tick(text: &mut String, format: Format, tick: u32) -> Writte
 pub(crate) fn write_tick(text: &mut String, format: Format, signals: &Signals<'_>) -> Written {
     begin_tick(text, format, signals.tick)?;
     for place in 0..track_count(signals.plan) {
-        if let Some(track) = track_at(signals.plan, place) {
-            match format {
-                Format::Vcd => vcd::write_change(text, &signals.change(track))?,
-                Format::Gtkw => {}
-                Format::Perfetto => perfetto::write_change(text, &signals.change(track))?,
+        match (format, track_at(signals.plan, place)) {
+            (Format::Vcd, Some(track)) => vcd::write_change(text, &signals.change(track))?,
+            (Format::Perfetto, Some(track)) => {
+                perfetto::write_change(text, &signals.change(track))?;
             }
+            _ => {}
         }
     }
     Ok(())
@@ -42,12 +42,10 @@ pub(crate) fn write_head(text: &mut String, format: Format, plan: &Plan) -> Writ
     };
     text.push_str(head)?;
     for place in 0..track_count(plan) {
-        if let Some(track) = track_at(plan, place) {
-            match format {
-                Format::Vcd => vcd::write_track(text, plan, track)?,
-                Format::Gtkw => {}
-                Format::Perfetto => perfetto::write_track(text, plan, track)?,
-            }
+        match (format, track_at(plan, place)) {
+            (Format::Vcd, Some(track)) => vcd::write_track(text, plan, track)?,
+            (Format::Perfetto, Some(track)) => perfetto::write_track(text, plan, track)?,
+            _ => {}
         }
     }
     text.push_str(end)

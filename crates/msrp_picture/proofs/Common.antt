@@ -1,7 +1,8 @@
 -- What most proofs of this crate cite, passed on from one place. Declares nothing.
 pub use Rattle.msrp_audit.specs.Audits.{HasFed, answer_of}
 pub use Rattle.msrp_core.specs.CoreStates.{IsCoreState}
-pub use Rattle.msrp_picture.specs.Blocks.{ceiling_after, ceiling_tick, ceilings, first_of, first_section, goes_on, joined, look_of, merged, queue_ticks, row_blocks, same_look, sections, shown_rows, ticks_of}
+pub use Rattle.msrp_picture.specs.Blocks.{ceiling_after, ceiling_tick, first_of, first_section, goes_on, look_of, merged, queue_ticks, row_blocks, same_look, sections, shown_rows, ticks_of}
+unfoldable pub use Rattle.msrp_picture.specs.Blocks.{ceilings, joined}
 pub use Rattle.msrp_picture.specs.Rows.{is_job_of, rows_in, task_rows, ticks_begun}
 pub use Rattle.msrp_picture.specs.Shapes.{after_last, life_of, task_lives}
 pub use Rattle.msrp_picture.specs.Types.{Block, JobId, Lane, Life, Look, PlanModel, ResId, Row}

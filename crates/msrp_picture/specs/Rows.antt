@@ -39,10 +39,6 @@ within plan from to = if nat_lt from to && nat_le to plan.ticks then Some (recor
 abbrev pub window_of : PlanModel → Asked → Option Window
 window_of plan asked = within plan (unwrap_or asked.from 0) (unwrap_or asked.to (min plan.ticks (unwrap_or asked.from 0 + SHORT_RUN)))
 
--- a window has a tick
-abbrev pub IsWindow : Window → Type 0
-IsWindow w = w.from < w.to
-
 -- some ticks of the block are drawn
 abbrev pub is_seen : Window → Block → Bool
 is_seen w b = nat_lt (max b.first w.from) (min b.end w.to)

@@ -98,7 +98,7 @@ fn ticks_of(alloc: Global, lane: Lane, is_legal: bool, rows: &[Row]) -> Result<V
     gathered(ticks, alloc)
 }
 
-/// Adds the blocks of a lane: those of legal rows, and those of the rows from the first on that violates a rule.
+/// Adds the blocks of a lane: those of legal rows, and those of the rows from the fault on.
 pub(crate) fn push_rows(blocks: &mut Vec<Block>, scene: &Scene<'_>, lane: Lane) -> Added
     ensures { OnOk result (blocks.new.items ≡ blocks.old.items ++ row_blocks lane scene.now.rows.now scene.now.later.now) }
 {

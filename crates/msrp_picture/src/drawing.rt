@@ -1,10 +1,10 @@
 //! What there is to see in a picture, and the picture.
-ghost use Rattle.std.specs.Prelude.{◌≡◌, ◌++◌, filter};
+ghost use Rattle.std.specs.Prelude.{◌≡◌, ◌<◌, ◌++◌, filter};
 ghost use Rattle.msrp_plan.specs.Common.{[], IfOk, OnOk};
 ghost use Rattle.msrp_audit.specs.Audits.{HasFed};
 ghost use Rattle.msrp_picture.specs.Blocks.{ceilings};
 ghost use Rattle.msrp_picture.specs.Shapes.{AreShapes, IsExpected, blocks, cores_blocks, events, lives_blocks, queues_blocks, tasks_blocks, violation};
-ghost use Rattle.msrp_picture.specs.Rows.{IsWindow, is_seen, later_rows, legal_rows};
+ghost use Rattle.msrp_picture.specs.Rows.{is_seen, later_rows, legal_rows};
 
 use crate::blocks::push_rows;
 use crate::elements::svg;
@@ -67,11 +67,7 @@ fn lives_blocks(scene: &Scene<'_>, lives: &[Life]) -> Result<Vec<Block>, Memory>
 }
 
 // All blocks of the trace.
-fn blocks_of(
-    scene: &Scene<'_>,
-    lives: &[Life],
-    after: &[(Row, u32)],
-) -> Result<Vec<Block>, Memory>
+fn blocks_of(scene: &Scene<'_>, lives: &[Life], after: &[(Row, u32)]) -> Result<Vec<Block>, Memory>
     requires { after.now ≡ ceilings scene.now.plan.now [] scene.now.rows.now }
     ensures { IfOk result (λ all. all.items ≡ blocks scene.now.plan.now scene.now.rows.now scene.now.later.now lives.now) }
 {
@@ -166,9 +162,9 @@ pub fn shapes_of(
     shapes_in(&Scene::of(&levels, plan, rows, found, window, alloc))
 }
 
-/// A picture of a trace with that verdict on its rows, and the sentence of a violated rule. If a rule
-/// is violated and no ticks are asked for, it shows the ticks around the fault, and else those of
-/// the window.
+/// A picture of a trace with that verdict on its rows, and the sentence of a violated rule. If a
+/// rule is violated and no ticks are asked for, it shows the ticks around the fault, and else those
+/// of the window.
 pub fn draw(
     alloc: Global,
     plan: &Plan,
@@ -178,7 +174,7 @@ pub fn draw(
     window: Window,
     rule: &str,
 ) -> Result<Vec<u8>, Memory>
-    requires { IsWindow window }
+    requires { window.from < window.to }
 {
     let window = shown_window(plan, asked, window, found);
     let levels = Levels::of(alloc, plan)?;

@@ -4,9 +4,10 @@ use crate::layout::{AXIS, LEFT, LINES, Layout, Room};
 use crate::scene::Scene;
 use crate::shapes::{Block, Event, Lane, Look, Shapes, Violation};
 use crate::words::{
-    Text, Written, block_words, event_words, moment_words, res_name, row_words, task_name,
-    ticks_words, verdict_words, violation_words,
+    Text, Written, block_words, event_words, moment_words, row_words, ticks_words, verdict_words,
+    violation_words,
 };
+use msrp_advice::{res_name, task_name};
 use msrp_plan::{Kind, Op, Plan, TaskId};
 use std::alloc::AllocError;
 use std::fmt::Display;
@@ -42,7 +43,7 @@ const LEGEND: &str =
 // How many names of tasks without a lane are on a line.
 const HIDDEN: u64 = 7;
 
-// How a block looks: in the queue of a resource and in a critical section it has the resource's colour.
+// How a block looks: in a queue and in a critical section it has the resource's colour.
 fn class_of(block: &Block) -> &'static str {
     match (block.look, block.res) {
         (Look::Runs, _) => "runs",
@@ -146,7 +147,10 @@ impl Canvas<'_> {
         let (class, label) = (class_of(block), label_of(self.scene, block)?);
         let after = if block.is_legal { "" } else { " after" };
         let words = block_words(self.scene, block)?;
-        write!(self.text, "<g class=\"{class}{after}\"><title>{words}</title>")?;
+        write!(
+            self.text,
+            "<g class=\"{class}{after}\"><title>{words}</title>"
+        )?;
         self.rect(x, width, room)?;
         let has_room = width_of(&label).saturating_add(3) <= width && 12 <= room.height;
         if !label.is_empty() && has_room {
@@ -273,7 +277,12 @@ impl Canvas<'_> {
     // Which ticks are drawn, and the verdict.
     fn caption(&mut self) -> Written {
         let ticks = ticks_words(self.scene)?;
-        self.note("title", 20, 24, &format_args!("Schedule under MSRP, {ticks}"))?;
+        self.note(
+            "title",
+            20,
+            24,
+            &format_args!("Schedule under MSRP, {ticks}"),
+        )?;
         let verdict = verdict_words(self.scene.alloc, self.scene.found)?;
         self.note("caption", 20, 42, &verdict)
     }
@@ -293,7 +302,7 @@ impl Canvas<'_> {
         Ok(())
     }
 
-    // Why the verdict is a fault: the rule in words, the row that violates it, and the expected one.
+    // Why the verdict is a fault: the rule, the row that violates it, and the expected row.
     fn reasons(&mut self, shapes: &Shapes, rule: &str) -> Written {
         if self.scene.found.is_err() {
             self.note("why", 20, LINES + 8, &rule)?;

@@ -36,11 +36,18 @@ fn ends_section(row: &Row, next: &Row) -> bool
     row.job == next.job && row.res == next.res && gives_back(next.kind)
 }
 
+// The first of these rows with which the section of a row ends.
+fn last_of<'a>(row: &Row, rest: &'a [Row]) -> Option<&'a Row>
+    ensures { option_copied result ≡ find (ends_section row.now) rest.now }
+{
+    rest.iter().find(|next| ends_section(row, next))
+}
+
 // The tick after a section, which ends with one of these rows, or with the last tick.
 fn section_end(end: u64, row: &Row, rest: &[Row]) -> u64
     ensures { result ≡ section_end end (find (ends_section row.now) rest.now) }
 {
-    match rest.iter().find(|next| ends_section(row, next)) {
+    match last_of(row, rest) {
         Some(last) => last.tick as u64 + 1,
         None => end,
     }
@@ -106,15 +113,27 @@ pub(crate) fn ceilings_of(
     Ok(all)
 }
 
-fn ceiling_tick(core: CoreId, after: &(Row, u32)) -> Option<Block>
-    ensures { result ≡ ceiling_tick core after.now }
+fn raised(core: CoreId, row: &Row, ceiling: u32) -> Option<Block>
+    ensures { result ≡ ceiling_tick core (row.now, ceiling) }
 {
-    let (row, ceiling) = *after;
     if row.core != core || ceiling == 0 {
         return None;
     }
     let (lane, look, tick) = (Lane::Ceiling(core), Look::Ceiling(ceiling), row.tick as u64);
     Some(lasting(lane, tick, tick + 1, look, None, None))
+}
+
+fn ceiling_tick(core: CoreId, after: &(Row, u32)) -> Option<Block>
+    ensures { result ≡ ceiling_tick core after.now }
+{
+    raised(core, &after.0, after.1)
+}
+
+fn ceiling_ticks(alloc: Global, core: CoreId, after: &[(Row, u32)]) -> Result<Vec<Block>, Memory>
+    ensures { IfOk result (λ ticks. ticks.items ≡ filter_map (ceiling_tick core) after.now) }
+{
+    let ticks = after.iter().filter_map(|after| ceiling_tick(core, after));
+    gathered(ticks, alloc)
 }
 
 /// Adds the blocks of a core's ceilings.
@@ -126,8 +145,8 @@ pub(crate) fn push_ceilings(
 ) -> Added
     ensures { OnOk result (blocks.new.items ≡ blocks.old.items ++ merged (filter_map (ceiling_tick core) ceilings.now)) }
 {
-    let ticks = ceilings.iter().filter_map(|after| ceiling_tick(core, after));
-    push_merged(blocks, &gathered(ticks, scene.alloc)?)
+    let ticks = ceiling_ticks(scene.alloc, core, ceilings)?;
+    push_merged(blocks, &ticks)
 }
 
 // The rows of a tick: each has one for each core.

@@ -1,6 +1,6 @@
 //! Where shapes are drawn in SVG, in its units: for each core a lane for who runs, one for its
-//! ceiling, and one for each of its tasks; below all cores a lane for each global resource. Tasks and
-//! resources without a shape are left out. The core and the task of a fault come first.
+//! ceiling, and one for each of its tasks; below all cores a lane for each global resource. Tasks
+//! and resources without a shape are left out. The core and the task of a fault come first.
 ghost use Rattle.std.specs.Prelude.{◌<◌};
 
 use crate::scene::Scene;
@@ -132,7 +132,7 @@ impl Layout {
             .map(|place| place.1)
     }
 
-    /// Where a tick begins, or the next edge of the lanes where it isn't drawn.
+    /// Where a tick begins, or the next edge of the lanes if it isn't drawn.
     pub(crate) fn left_of(&self, tick: u64) -> u64 {
         let (from, to) = (self.window.from as u64, self.window.to as u64);
         let ticks = tick.max(from).min(to).saturating_sub(from);

@@ -1,8 +1,8 @@
 //! A trace of a plan as a picture, in text or in SVG.
 //!
 //! [`draw`] first lists what there is to see: which blocks and events, for which job, resource and
-//! ticks. This list, [`Shapes`], is proved to be what the rows say. Where and how a shape is drawn is
-//! tested, and not proved.
+//! ticks. This list, [`Shapes`], is proved to be what the rows say. Where and how a shape is drawn
+//! is tested, and not proved.
 #![tactic(auto)]
 
 mod blocks;
@@ -24,7 +24,7 @@ use msrp_plan::{Fault, Memory};
 pub use shapes::{Block, Event, Lane, Look, Moment, Shapes, Violation};
 pub use windows::{Asked, SHORT_RUN, Style, Window, window_of};
 
-/// What is answered where something is added: nothing, or that memory ran out.
+/// What adding something answers: nothing, or that memory ran out.
 type Added = Result<(), Memory>;
 
 /// The verdict on rows.

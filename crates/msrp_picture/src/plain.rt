@@ -3,7 +3,8 @@
 use crate::scene::Scene;
 use crate::shapes::{Block, Lane, Look, Moment, Shapes, Violation};
 use crate::windows::Window;
-use crate::words::{Text, Written, res_name, ticks_words, verdict_words};
+use crate::words::{Text, Written, ticks_words, verdict_words};
+use msrp_advice::res_name;
 use msrp_plan::{CoreId, Kind, Plan, ResId, Row, TaskId};
 use std::alloc::{AllocError, Global};
 use std::fmt::Display;
@@ -168,7 +169,7 @@ impl Lines<'_> {
         Ok(())
     }
 
-    // Adds who runs on a core, what is done, a mark below a row that violates a rule, and the events.
+    // Adds who runs on a core, what is done, a mark below a faulty row, and the events.
     fn add_core(&mut self, core: CoreId) -> Written {
         let of_core = self.scene.rows.iter().filter(|row| row.core == core);
         let ticks = of_core.count() as u64;
@@ -252,7 +253,10 @@ fn lines_of<'a>(scene: &'a Scene<'a>, shapes: &'a Shapes) -> Result<Lines<'a>, A
 /// A picture in plain text.
 pub(crate) fn text(scene: &Scene<'_>, shapes: &Shapes) -> Text {
     let (lines, mut text) = (lines_of(scene, shapes)?, String::new(scene.alloc));
-    let (verdict, ticks) = (verdict_words(scene.alloc, scene.found)?, ticks_words(scene)?);
+    let (verdict, ticks) = (
+        verdict_words(scene.alloc, scene.found)?,
+        ticks_words(scene)?,
+    );
     write!(text, "{verdict}\n{ticks}\n")?;
     for part in 0..scene.window.ticks().div_ceil(LINE_TICKS) {
         lines.write_part(&mut text, part)?;

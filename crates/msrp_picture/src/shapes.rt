@@ -26,9 +26,10 @@ pub enum Look {
     Does(Kind),
     /// A job holds a resource.
     Holds,
-    /// A job is first in the queue of a resource, and so many jobs wait behind it.
+    /// A job is first in the queue of a resource, with this number of jobs waiting behind it.
     First(u64),
-    /// A job, from its release to its completion; or to the last tick with a row, where it isn't finished.
+    /// A job, from its release to its completion; or to the last tick with a row if it isn't
+    /// finished.
     Life(bool),
     /// A job after its absolute deadline.
     Late,
@@ -101,6 +102,6 @@ pub struct Shapes {
     pub blocks: Vec<Block>,
     pub events: Vec<Event>,
     pub violation: Option<Violation>,
-    /// The row that is expected of its core, if the turn of that is still to come in the tick.
+    /// The row that is expected of its core, if that core's turn in the tick is still to come.
     pub expected: Option<Row>,
 }

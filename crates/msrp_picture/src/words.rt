@@ -1,10 +1,11 @@
-//! What a picture says: names, the verdict, and a sentence for each block, event and violation.
+//! What a picture says: the verdict, and a sentence for each block, event and violation.
 
 use crate::Verdict;
 use crate::scene::Scene;
 use crate::shapes::{Block, Event, Look, Moment, Violation};
 use crate::windows::expected_tick;
-use msrp_plan::{JobId, Kind, Plan, ResId, Row, TaskId};
+use msrp_advice::{res_name, task_name};
+use msrp_plan::{JobId, Kind, ResId, Row};
 use std::alloc::{AllocError, Global};
 
 /// What a function answers that writes text: an error if no memory is left for it.
@@ -12,24 +13,6 @@ pub(crate) type Written = Result<(), AllocError>;
 
 /// A text, or an error if no memory is left for it.
 pub(crate) type Text = Result<String, AllocError>;
-
-/// The name of a task; nothing if the plan has no such task.
-pub(crate) fn task_name(plan: &Plan, task: TaskId) -> &str {
-    if task.0 < plan.tasks() {
-        plan.task_name(task)
-    } else {
-        ""
-    }
-}
-
-/// The name of a resource; nothing if the plan has no such resource.
-pub(crate) fn res_name(plan: &Plan, res: ResId) -> &str {
-    if res.0 < plan.resources() {
-        plan.res_name(res)
-    } else {
-        ""
-    }
-}
 
 fn job_words(scene: &Scene<'_>, job: Option<JobId>) -> Text {
     let Some(job) = job else {

@@ -28,7 +28,7 @@ abbrev pub system_of : ℕ → List (String Global) → List Task → PlanModel
 system_of cores resources tasks = record { cores = cores; ticks = 0; resources = map string_bytes resources; tasks = map task_view tasks }
 
 -- ---- why a system is refused, in the order of judging
--- the step names no resource of so many, or is neither a lock nor an unlock
+-- the step names a resource beyond this number of them, or is neither a lock nor an unlock
 abbrev pub is_undeclared : ℕ → Op → Bool
 is_undeclared resources Run = true
 is_undeclared resources (Lock r) = nat_le resources r.0
@@ -52,7 +52,7 @@ system_fault cores resources tasks =
     if list_any (is_beyond cores) tasks then Some Core else (
     if list_any (names_undeclared resources) tasks then Some Undeclared else None))
 
--- a call is refused with its fault if it has one, and else only for want of memory
+-- a call is refused with its fault if it has one, and else only if memory runs out
 abbrev pub IsJudged : {A : Type 0} → Option SystemFault → Result A SystemFault → Type 0
 IsJudged (Some fault) r = r ≡ Err fault
 IsJudged None r = IsOk r ⊎ (r ≡ Err Memory)

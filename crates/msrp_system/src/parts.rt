@@ -209,7 +209,7 @@ impl Parts {
         locks(self.steps(task), res)
     }
 
-    // Whether a job of the task holds the resource after so many of its locks and unlocks.
+    // Whether a job of the task holds the resource after `step` of its locks and unlocks.
     pub(crate) fn holds_after(&self, task: TaskId, step: u32, res: ResId) -> bool
         requires { task.0 < length self.now.tasks }
         ensures { result ≡ holds_after (take step (task_at self.now task.0).units) res.0 }

@@ -231,7 +231,7 @@ impl System {
         self.parts.steps(task)
     }
 
-    /// Whether a job of the task holds a resource after so many of its locks and unlocks.
+    /// Whether a job of the task holds a resource after `step` of its locks and unlocks.
     pub fn holds_after(&self, task: TaskId, step: u32, res: ResId) -> bool
         requires { task.0 < length self.now.tasks }
         ensures { result ≡ holds_after (take step (task_at self.now task.0).units) res.0 }
@@ -277,7 +277,7 @@ impl System {
         self.ceilings[res.0 as usize]
     }
 
-    // Whether a job of the task holds a local resource, or a global one, after so many of its locks
+    // Whether a job of the task holds a local resource, or a global one, after `step` of its locks
     // and unlocks.
     fn holds_local(&self, task: TaskId, step: u32, res: ResId) -> bool
         requires { task.0 < length self.now.tasks }
@@ -318,9 +318,9 @@ impl System {
         highest
     }
 
-    /// The ceiling of a core while a job of this task is the only one that holds or awaits
-    /// something there: the job
-    /// has done so many locks and unlocks, and waits for a global resource or doesn't.
+    /// The ceiling of a core while a job of this task is the only one that holds or waits for
+    /// something there: the job has done `step` locks and unlocks, and `waits` for a global
+    /// resource or doesn't.
     pub fn ceiling_after(&self, task: TaskId, step: u32, waits: bool) -> u32
         requires { task.0 < length self.now.tasks }
         ensures { result ≡ ceiling_with self.now (task_at self.now task.0).core waits (holds_after (take step (task_at self.now task.0).units)) }

@@ -1,4 +1,5 @@
--- What is found in rows that are judged as they are read, with the cause of a fault or the refusal behind them, and the words on it.
+-- What is found in rows that are judged as they are read: the cause of a fault, or the refusal
+-- after them, and the words on it.
 use Rattle.std.proofs.Common.{◌≡◌, ◌⊎◌, ◌+◌, ◌-◌, ◌++◌, ◌∷◌, ◌∙◌}
 use Rattle.msrp_plan.proofs.Common.{[], ℕ, true, List, Option, Some, None, Result, Ok, Err, IfOk, IfErr, ap, sym, subst, inl, inr, append_assoc, same_Some, ⊤, IfSome, option_or, PlanModel, fault_in, missing, verdict}
 use Rattle.msrp_plan.specs.Common.{IsOkAnd}

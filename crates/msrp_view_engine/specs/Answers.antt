@@ -62,9 +62,6 @@ abbrev pub WritesDrawing : {W : Type 0} → Result (Result ⊤ Fault) CliFault �
 WritesDrawing (Ok verdict) old new result = result ≡ answered (answer_to (Ok verdict)) new
 WritesDrawing (Err fault) old new result = Refuses fault old new result
 
-abbrev pub ViewAnswers : {W : Type 0} → Result PlanModel TextError → List (List (List ℕ)) → Drawing → Sink W → Sink W → Result ℕ CliFault → Type 0
-ViewAnswers plan records drawing old new result = WritesDrawing (drawing_found plan records drawing) old new result
-
 -- the faults of a drawing: those of an audit, and wrong usage for a picture
 abbrev pub is_drawing_fault : CliFault → Drawing → Bool
 is_drawing_fault cli.Usage (Picture asked) = true
@@ -141,16 +138,8 @@ abbrev pub plan_found : Result PlanModel TextError → Result (Result ⊤ Fault)
 plan_found (Ok plan) = Ok (Ok tt)
 plan_found (Err error) = Err (fault_of error)
 
--- a record of a plan is refused
-abbrev pub is_plan_refusal : CliFault → Bool
-is_plan_refusal (cli.Plan code number) = is_plan_code code
-is_plan_refusal _ = false
-
 -- the plan is accepted, or one of its records is refused
 abbrev pub IsOnPlan : Result (Result ⊤ Fault) CliFault → Type 0
 IsOnPlan (Ok verdict) = verdict ≡ Ok tt
-IsOnPlan (Err fault) = is_plan_refusal fault ≡ true
-
--- the answer to a plan's text, where its words are written
-abbrev pub WhyPlanAnswers : {W : Type 0} → Result PlanModel TextError → Sink W → Result ℕ CliFault → Type 0
-WhyPlanAnswers read new result = result ≡ answered (answer_to (plan_found read)) new
+IsOnPlan (Err (cli.Plan code number)) = is_plan_code code ≡ true
+IsOnPlan (Err _) = ⊥

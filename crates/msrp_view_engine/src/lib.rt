@@ -1,9 +1,9 @@
 //! The engines of the second program, from bytes to bytes, over any reader and writer: the picture
-//! of a trace and its page for a browser (`view`), a trace in the format of another tool (`export`),
-//! a verdict with its reasons (`why`), and what is wrong or odd in a plan (`why_plan`).
+//! of a trace and its page for a browser (`view`), a trace in the format of another tool
+//! (`export`), a verdict with its reasons (`why`), and what is wrong or odd in a plan (`why_plan`).
 //!
 //! The clause `answer` of each says what it answers to the plan and the rows in the bytes of its
-//! readers, if no read failed and no memory was refused. The other clauses hold in every case.
+//! readers, if no read and no allocation failed. The other clauses hold in every case.
 #![tactic(auto)]
 
 mod export;

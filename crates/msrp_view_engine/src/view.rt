@@ -2,7 +2,7 @@
 ghost use Rattle.std.specs.Prelude.{◌≡◌};
 ghost use Rattle.msrp_plan.specs.Common.{[], true, Some, Err, IfErr, WroteSome};
 ghost use Rattle.msrp_view_engine.specs.Common.{Answered, OfText, OfTexts, OrUnread, ReadsBoth, Told as TraceTold, found_in, is_trace_fault, rows_of, told_left, window_of};
-ghost use Rattle.msrp_view_engine.specs.Answers.{IsDrawingOf, ViewAnswers, found_drawn, found_within, is_drawing_fault, rows_in, rows_read, verdict_on};
+ghost use Rattle.msrp_view_engine.specs.Answers.{IsDrawingOf, WritesDrawing, drawing_found, found_drawn, found_within, is_drawing_fault, rows_in, rows_read, verdict_on};
 
 use crate::why::explain_all;
 use crate::why_plan::bytes_of;
@@ -167,7 +167,7 @@ pub fn view_text<P: Read, T: Read, W: Write>(
     out: &mut Sink<W>,
     drawing: Drawing,
 ) -> Result<u8, CliFault>
-    ensures answer { OfTexts P.remaining T.remaining plan.old trace.old result (λ plan records. ViewAnswers plan records drawing out.old out.new result) }
+    ensures answer { OfTexts P.remaining T.remaining plan.old trace.old result (λ plan records. WritesDrawing (drawing_found plan records drawing) out.old out.new result) }
     ensures wrote { WroteSome W.contents out.old out.new }
     ensures always { Answered P.remaining (λ fault. is_drawing_fault fault drawing ≡ true) plan.old plan.new trace.old trace.new out.old out.new result }
 {

@@ -238,8 +238,8 @@ pub fn why_of_texts<P: Read, T: Read>(
 /// Reads a plan and a trace from any source, and writes the verdict as an audit does, and then its
 /// reasons: the first row that violates a rule, the rule, the row expected in its place, and the
 /// facts that the rule needs; of a legal trace, what its run exercised. The answer is the exit
-/// status, 0 or 1. Of a refused record it writes what is wrong, and the record itself; the answer is
-/// the refusal.
+/// status, 0 or 1. Of a refused record it writes what is wrong, and the record itself; the answer
+/// is the refusal.
 ///
 /// Each row is judged as it is read, and one is kept at a time. All memory is taken before anything
 /// is written. Of a refused plan nothing is.

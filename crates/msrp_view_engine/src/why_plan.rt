@@ -1,8 +1,8 @@
 //! Why a plan is refused, or what is odd in it, in words.
 ghost use Rattle.std.specs.Prelude.{◌≡◌, ◌⊎◌, ◌-◌};
-ghost use Rattle.msrp_plan.specs.Common.{ℕ, List, [], true, false, Ok, Some, Err, map, take, IfOk, IfErr, OnOk, source_failed, source_remaining, WroteSome};
-ghost use Rattle.msrp_view_engine.specs.Common.{Ends, IsDone, OrUnread, csv_records, fault_of, fields_of, is_sim_fault, plan_of};
-ghost use Rattle.msrp_view_engine.specs.Answers.{IsOnPlan, WhyPlanAnswers, plan_found};
+ghost use Rattle.msrp_plan.specs.Common.{ℕ, List, true, false, Ok, Some, Err, map, take, IfOk, IfErr, OnOk, source_failed, source_remaining, WroteSome};
+ghost use Rattle.msrp_view_engine.specs.Common.{Ends, IsDone, OrUnread, answered, csv_records, fault_of, fields_of, is_sim_fault, plan_of};
+ghost use Rattle.msrp_view_engine.specs.Answers.{IsOnPlan, answer_to, plan_found};
 
 use crate::words::{Outcome, Words, answer_to};
 use csv::ByteRecord;
@@ -120,7 +120,7 @@ pub fn why_plan_text<P: Read, W: Write>(
     plan: &mut Source<P>,
     out: &mut Sink<W>,
 ) -> Result<u8, CliFault>
-    ensures answer { (bytes : List ℕ) → source_remaining P.remaining plan.old ≡ Some bytes → OrUnread result (WhyPlanAnswers (plan_of (csv_records bytes)) out.new result) }
+    ensures answer { (bytes : List ℕ) → source_remaining P.remaining plan.old ≡ Some bytes → OrUnread result (result ≡ answered (answer_to (plan_found (plan_of (csv_records bytes)))) out.new) }
     ensures wrote { WroteSome W.contents out.old out.new }
     ensures read { result ≡ Err CliFault.Read → source_failed plan.new ≡ true }
     ensures memory { result ≡ Err CliFault.Memory → source_failed plan.new ≡ false }

@@ -12,24 +12,20 @@ use Rattle.msrp_why.specs.declared.causes.Cause.{Cause}
 abbrev pub cores_with_turn : PlanModel → List Row → List ℕ
 cores_with_turn plan rows = filter (has_turn plan rows) (range_with_len 0 plan.cores)
 
--- rows are left, and the row is in its turn: it can break the rules A2 to A5 alone
+-- rows are left, and the row is in its turn: it can violate the rules A2 to A5 only
 abbrev pub IsInTurn : PlanModel → List Row → Row → Type 0
 IsInTurn plan rows r = (length rows < plan.cores * plan.ticks) × (is_in_turn plan rows r ≡ true)
 
--- rows are left, and the row is out of turn: it breaks A1
-abbrev pub MissesTurn : PlanModel → List Row → Row → Type 0
-MissesTurn plan rows r = (length rows < plan.cores * plan.ticks) × (is_in_turn plan rows r ≡ false)
-
 -- why this row is refused after these, which have no fault. In its turn, the expected row is the
 -- one legal row of its core after these, with its ahead, and the state is the one in which they
--- leave its core; out of turn, the turns are those still to come
+-- leave its core; out of turn, which violates A1, the turns are those still to come
 pub record IsCauseAfter (plan : PlanModel) (rows : List Row) (r : Row) (cause : Cause) : Type 0 where
   pub good : fault_in plan rows ≡ None
   pub fault : fault_in plan (rows ++ r ∷ []) ≡ Some cause.fault
   pub row : cause.row ≡ r
   pub expected : IsInTurn plan rows r → IsSomeAnd cause.expected (IsNextRow plan rows r.core.0)
   pub state : IsInTurn plan rows r → IsSomeAnd cause.state (IsCoreState plan r.core.0 (length rows / plan.cores) rows)
-  pub turns : MissesTurn plan rows r → cause.turns.items ≡ cores_with_turn plan rows
+  pub turns : length rows < plan.cores * plan.ticks → is_in_turn plan rows r ≡ false → cause.turns.items ≡ cores_with_turn plan rows
   pub notes : AreNoted plan rows cause.notes
 
 -- why one of these rows is refused

@@ -15,7 +15,7 @@ use Rattle.msrp_why.specs.declared.notes.ResourceNotes.{ResourceNotes}
 use Rattle.msrp_core.specs.declared.states.CoreState.{CoreState}
 
 -- ---- rows with their numbers
--- rows with their numbers, where so many come before
+-- rows with their numbers, after as many others as the number
 abbrev pub numbered : ℕ → List Row → List Numbered
 numbered n [] = []
 numbered n (r ∷ rows) = record { number = n + 1; row = r } ∷ numbered (n + 1) rows
@@ -28,8 +28,8 @@ job_of e = e.row.job
 abbrev pub requests : ℕ → Numbered → Bool
 requests g e = is_on g e.row.res && is_request e.row.kind
 
--- the rows of those who stand in the queue of a resource: its requests, in order, without as many
--- at the front as released it
+-- the rows of the jobs in the queue of a resource: its requests, in order, without as many at the
+-- front as released it
 abbrev pub queue_rows : ℕ → List Row → List Numbered
 queue_rows g rows = drop (count_by (is_release_of g) rows) (filter (requests g) (numbered 0 rows))
 
@@ -127,8 +127,7 @@ nests plan pre r = is_opening r.kind && option_map_or (is_inside plan pre) r.job
 
 -- the turns in which a job finishes, after its deadline (the tick begins at it or later), or at it
 -- (the tick ends at it); in which the head of the core may not start, at the ceiling; in which a
--- job
--- preempts another; and in which it opens a critical section inside another
+-- job preempts another; and in which it opens a critical section inside another
 pub record AreTurnCounts (plan : PlanModel) (rows : List Row) (n : TurnCounts) : Type 0 where
   pub finished : n.finished ≡ count_after (finishes plan) [] rows
   pub late : n.late ≡ count_after (λ pre r. finishes plan pre r && is_at_most (deadline_of plan r) r.tick) [] rows

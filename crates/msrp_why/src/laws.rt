@@ -5,8 +5,8 @@ ghost use Rattle.msrp_plan.specs.declared.ids.JobId.{JobId};
 ghost use Rattle.msrp_plan.specs.declared.rows.Row.{Row};
 ghost use Rattle.msrp_why.specs.Noted.{IsLockBy, job_of, last_change, queue_rows};
 
-/// Who stands in a queue by the rows that are noted is the queue of the policy, in its order,
-/// whatever the rows are.
+/// For any rows, the jobs of the rows that are noted of a queue are the queue of the policy, in its
+/// order.
 #[tactic(auto, using(crate::proofs::Noting::queue_jobs))]
 pub fn queue_is_fifo()
     ensures { (g : ℕ) (rows : List Row) → map job_of (queue_rows g rows) ≡ map (λ j. Some j) (fifo g rows) }
@@ -19,7 +19,7 @@ pub fn holder_locked_last()
 {}
 
 /// The job that holds a global resource is that of the first row that is noted of its queue: since
-/// that row it awaited the resource or held it.
+/// that row it waited for the resource or held it.
 #[tactic(auto, using(crate::proofs::Noting::first_holds))]
 pub fn holder_is_first()
     ensures { (plan : PlanModel) (rows : List Row) (g : ℕ) (j : JobId) → IsPlan plan → is_global plan g ≡ true → IsRunStart plan rows → holds plan rows g j ≡ true → option_map job_of (slice_get (queue_rows g rows) 0) ≡ Some (Some j) }

@@ -16,14 +16,14 @@ pub struct RefusedRecord<'a> {
     pub fault: TraceFault,
     /// The number of the record, counted from 1.
     pub number: u32,
-    /// The line in which it begins, where that is known.
+    /// The line in which it begins, if it is known.
     pub line: Option<u64>,
     /// The record; one without fields is the end of the text.
     pub row: &'a ByteRecord,
 }
 
-// What is wrong with a record, in words. A number in braces stands for that field, counted from 0;
-// another word for what the plan allows.
+// What is wrong with a record, in words. A number in braces means that field, counted from 0;
+// another word means what the plan allows.
 impl RefusedRecord<'_> {
     fn has(&self, i: usize, word: &[u8]) -> bool {
         has_word(self.row, i, word)

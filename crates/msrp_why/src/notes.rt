@@ -160,7 +160,7 @@ impl Notes {
         })
     }
 
-    /// No notes, where none are kept.
+    /// No notes, for an auditor without them.
     pub fn none(alloc: Global) -> Notes {
         Notes {
             rows: 0,
@@ -170,7 +170,7 @@ impl Notes {
         }
     }
 
-    // Whether the job holds or awaits a resource.
+    // Whether the job holds or waits for a resource.
     #[inline(never)]
     fn is_inside(&self, job: JobId) -> bool
         ensures { result ≡ list_any (λ notes. is_user job notes.last notes.queue.items) self.now.resources.items }
@@ -185,8 +185,7 @@ impl Notes {
             && row.job.is_some_and(|job| self.is_inside(job))
     }
 
-    /// The notes after one row more, which is legal, where the state of its core before it is
-    /// known.
+    /// The notes after one more row, which is legal, if the state of its core before it is known.
     #[inline(always)]
     pub fn note(&mut self, plan: &Plan, levels: &Levels<'_>, state: Option<CoreState>, row: Row)
         requires { levels.now ≡ plan.now }

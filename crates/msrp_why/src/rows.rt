@@ -4,7 +4,7 @@ use msrp_advice::{Count, Shown, res_name, task_name};
 use msrp_plan::{JobId, Plan, Row, TextVersion};
 use std::fmt::{self, Formatter, Write};
 
-/// The line of a record, where it is known.
+/// The line of a record, if it is known.
 #[derive(Clone, Copy)]
 pub(crate) struct Line(pub Option<u64>);
 

@@ -18,11 +18,8 @@ fn write_turns<W: Write>(f: &mut Formatter<W>, n: TurnCounts) -> fmt::Result {
     let blocked = Count(u128::from(n.kept), "turn");
     writeln!(f, "jobs finished: {}", n.finished)?;
     writeln!(f, "jobs finished after their deadline: {}", n.late)?;
-    writeln!(
-        f,
-        "jobs finished exactly at their deadline: {}",
-        n.at_deadline
-    )?;
+    let at_deadline = n.at_deadline;
+    writeln!(f, "jobs finished exactly at their deadline: {at_deadline}")?;
     write!(f, "ceiling blocked a ready job: {blocked}, ")?;
     writeln!(f, "{} with level = ceiling", n.at_ceiling)?;
     writeln!(f, "preemptions: {}", n.preempted)?;

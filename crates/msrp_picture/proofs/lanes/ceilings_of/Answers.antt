@@ -1,5 +1,5 @@
 use Rattle.std.proofs.Common.{◌≡◌, ◌+◌, ◌∷◌, ◌++◌, ◌∙◌}
-use Rattle.msrp_plan.proofs.Common.{ℕ, List, None, Option, PlanModel, Some, [], ap, append_assoc, append-nil, arith, cons_option, drop, drop_all, drop_more, refl, subst, sym, take, take_more}
+use Rattle.msrp_plan.proofs.Common.{ℕ, List, None, Option, PlanModel, Some, [], ap, append_assoc, append-nil, arith, cons_option, drop, drop_all, drop_more, refl, subst, sym, take, take_all, take_more}
 use Rattle.msrp_picture.proofs.Common.{HasFed, Row, ceiling_after, ceilings}
 use Rattle.msrp_picture.proofs.lanes.ceilings_of.Goals as goal
 
@@ -34,8 +34,11 @@ loop-row-preserved c =
           ∙ one-more plan (take i rows) (drop (i + 1) rows) r c.loop-row.all.items ∙ ap (λ xs. c.loop-row.all.items ++ ceilings plan (take i rows) xs) (sym left) ∙ old.all;
     }
 
-pub returns : goal.returns
-returns c =
+pub returns-clause-fed : goal.returns-clause-fed
+returns-clause-fed c = subst (λ (xs : List Row). HasFed c.loop-row.auditor xs) (take_all c.loop-row.row-index c.args.scene.now.rows.now (omega arith)) c.loop-row.invariant.fed
+
+pub returns-clause-all : goal.returns-clause-all
+returns-clause-all c =
     let plan = c.args.scene.now.plan.now in
     let rows = c.args.scene.now.rows.now in
     let i = c.loop-row.row-index in

@@ -33,10 +33,10 @@ pub returns-then-is_finished : goal.returns-then-is_finished
 returns-then-is_finished c =
     let done_is = ap (λ n. nat_eq n c.units.result) c.done.ensures ∙ ap (nat_eq (done c.args.job c.args.own.now)) c.units.ensures in
     let end = c.after_last.ensures ∙ ap (λ b. cond b (after_last c.args.job c.args.own.now) (ticks_begun c.args.scene.now.plan.now c.args.scene.now.rows.now)) (sym (eq-eqb c.done.result c.units.result c.if-is_finished.true)) in
-    life-is _ c.args.scene.now.rows.now c.args.own.now c.args.job _ _ _ _ c.requires.rows c.release-release.ensures.value c.deadline.ensures done_is end
+    life-is c.args.scene.now.plan.now c.args.scene.now.rows.now c.args.own.now c.args.job _ _ _ _ c.requires.rows c.release-release.ensures.value c.deadline.ensures done_is end
 
 pub returns-else-is_finished : goal.returns-else-is_finished
 returns-else-is_finished c =
     let done_is = ap (λ n. nat_eq n c.units.result) c.done.ensures ∙ ap (nat_eq (done c.args.job c.args.own.now)) c.units.ensures in
     let end = c.ticks_begun.ensures ∙ ap (λ b. cond b (after_last c.args.job c.args.own.now) (ticks_begun c.args.scene.now.plan.now c.args.scene.now.rows.now)) (sym (ne_eqb c.done.result c.units.result c.if-is_finished.false)) in
-    life-is _ c.args.scene.now.rows.now c.args.own.now c.args.job _ _ _ _ c.requires.rows c.release-release.ensures.value c.deadline.ensures done_is end
+    life-is c.args.scene.now.plan.now c.args.scene.now.rows.now c.args.own.now c.args.job _ _ _ _ c.requires.rows c.release-release.ensures.value c.deadline.ensures done_is end

@@ -15,6 +15,6 @@ returns-clause-cause c = λ rows good broken noted state.
       state = λ t.
           let core = (due_after plan rows r t.0 t.1).turn in
           subst (λ n. IsSomeAnd c.args.state (IsCoreState plan r.core.0 n rows)) (turns_when_due plan rows r.core.0 c.cores_with_turn-turns.ensures.accepted (good_start plan rows good).each core) (state core.core);
-      turns = λ t. let out = broken.out (λ few. t.1) in c.cores_with_turn-turns.ensures.turns rows out.0 out.1 t.0;
+      turns = λ few other. let out = broken.out (λ _. other) in c.cores_with_turn-turns.ensures.turns rows out.0 out.1 few;
       notes = noted;
     }
