@@ -100,16 +100,6 @@ impl<'a> Exporter<'a> {
         write_end(&mut self.text, self.format, &self.signals, next(tick))
     }
 
-    fn make_end(&mut self, found: Result<(), Fault>, row: Option<Row>) -> Written {
-        match found {
-            Ok(()) => {
-                let ticks = self.signals.plan.ticks();
-                write_end(&mut self.text, self.format, &self.signals, ticks)
-            }
-            Err(fault) => self.make_fault(fault.rule, row),
-        }
-    }
-
     /// Writes the end: of a whole run, or the rule that is violated after the rows, with the row
     /// that violates it; none if a row is missing.
     pub fn end<W: Write>(
@@ -120,7 +110,11 @@ impl<'a> Exporter<'a> {
     ) -> Result<(), AllocError>
         ensures { WroteSome W.contents out.old out.new }
     {
-        let made = self.make_end(found, row);
+        let ticks = self.signals.plan.ticks();
+        let made = match found {
+            Ok(()) => write_end(&mut self.text, self.format, &self.signals, ticks),
+            Err(fault) => self.make_fault(fault.rule, row),
+        };
         self.put(out, made)
     }
 }

@@ -63,21 +63,15 @@ pub(crate) enum State {
 
 // The state on a track in a tick, by the rows before the tick and those up to its end. A core has
 // none before its first row.
-fn state_of(
-    plan: &Plan,
-    before: &Summary,
-    latest: &Summary,
-    tick: u32,
-    track: Track,
-) -> Option<State>
+fn state_of(plan: &Plan, before: &Summary, now: &Summary, tick: u32, track: Track) -> Option<State>
     requires plan { IsPlan plan.now }
     requires track { IsTrack plan.now track }
-    ensures { (earlier rows : List TraceRow) → Summarizes before.now earlier → Summarizes latest.now rows → result ≡ state_of plan.now earlier rows tick track }
+    ensures { (earlier rows : List TraceRow) → Summarizes before.now earlier → Summarizes now.now rows → result ≡ state_of plan.now earlier rows tick track }
 {
     match track {
-        Track::Core(core) => latest.last_row(core).map(State::Core),
-        Track::Task(task) => Some(State::Task(task_status(plan, before, latest, tick, task))),
-        Track::Resource(resource) => Some(State::Resource(latest.resource_state(resource))),
+        Track::Core(core) => now.last_row(core).map(State::Core),
+        Track::Task(task) => Some(State::Task(task_status(plan, before, now, tick, task))),
+        Track::Resource(resource) => Some(State::Resource(now.resource_state(resource))),
     }
 }
 

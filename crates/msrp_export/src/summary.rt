@@ -8,7 +8,7 @@ use msrp_plan::limits::{MOST_CORES, MOST_RESOURCES, MOST_TASKS};
 use msrp_plan::{CoreId, JobId, Kind, ResId, Row, TaskId};
 
 /// What rows say of a task.
-#[derive(Clone, Copy, Default)]
+#[derive(Clone, Copy)]
 pub(crate) struct TaskCounts {
     /// The units that its jobs have done.
     pub(crate) work: u32,
@@ -19,7 +19,7 @@ pub(crate) struct TaskCounts {
 }
 
 /// What rows say of a resource.
-#[derive(Clone, Copy, Default)]
+#[derive(Clone, Copy)]
 pub(crate) struct ResourceUse {
     pub(crate) holder: Option<JobId>,
     pub(crate) requests: u32,
@@ -70,6 +70,12 @@ fn one_more(count: u32, counts: bool) -> u32
 }
 
 impl TaskCounts {
+    const NONE: TaskCounts = TaskCounts {
+        work: 0,
+        acquired: 0,
+        given_up: 0,
+    };
+
     // With one more row of the task.
     fn with_row(self, row: Row) -> TaskCounts
         ensures { self.work + 1 < 2 ^ 32 → self.acquired + 1 < 2 ^ 32 → self.given_up + 1 < 2 ^ 32 → result ≡ counted row self }
@@ -83,6 +89,12 @@ impl TaskCounts {
 }
 
 impl ResourceUse {
+    const NONE: ResourceUse = ResourceUse {
+        holder: None,
+        requests: 0,
+        releases: 0,
+    };
+
     fn holder_by(self, row: Row) -> Option<JobId>
         ensures { result ≡ holder_by self.holder row }
     {
@@ -115,8 +127,8 @@ impl Summary {
     {
         Summary {
             last_rows: [None; MOST_CORES as usize],
-            tasks: [TaskCounts::default(); MOST_TASKS],
-            uses: [ResourceUse::default(); MOST_RESOURCES],
+            tasks: [TaskCounts::NONE; MOST_TASKS],
+            uses: [ResourceUse::NONE; MOST_RESOURCES],
         }
     }
 

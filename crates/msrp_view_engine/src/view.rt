@@ -40,13 +40,8 @@ struct Gathered {
 }
 
 // Notes the line of a row if it isn't the expected one, and answers the line expected next.
-fn note_line(
-    lines: &mut Vec<(u32, u64)>,
-    row: u32,
-    line: u64,
-    expected: u64,
-) -> Result<u64, Memory> {
-    if line != expected {
+fn note_line(lines: &mut Vec<(u32, u64)>, row: u32, line: u64, next: u64) -> Result<u64, Memory> {
+    if line != next {
         lines.push((row, line))?;
     }
     Ok(if line == 0 { 0 } else { line.saturating_add(1) })

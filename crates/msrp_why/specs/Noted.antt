@@ -109,9 +109,13 @@ is_other _ _ = false
 abbrev pub is_by : JobId → Numbered → Bool
 is_by j e = is_job e.row.job j
 
--- by the last change of a resource the job locked it and hasn't unlocked it, or it is in its queue
+-- by the last change of a resource, the job locked it and hasn't unlocked it
+abbrev pub is_locker : JobId → Option Numbered → Bool
+is_locker j last = option_map_or (λ e. same_kind e.row.kind Lock && is_by j e) last false
+
+-- so it is, or the job is in the resource's queue
 abbrev pub is_user : JobId → Option Numbered → List Numbered → Bool
-is_user j last queue = option_map_or (λ e. same_kind e.row.kind Lock && is_by j e) last false || list_any (is_by j) queue
+is_user j last queue = is_locker j last || list_any (is_by j) queue
 
 -- the job is inside a critical section
 abbrev pub is_inside : PlanModel → List Row → JobId → Bool

@@ -4,7 +4,7 @@ ghost use Rattle.std.specs.Prelude.{◌≡◌, ◌<◌, ◌+◌, ◌&&◌, ◌++
 ghost use Rattle.msrp_plan.specs.Common.{[], ℕ, List, Some, IfOk, drop, false, length, true, is_on, is_release, is_request, IsRunStart, PlanModel, IsPlan, list_any};
 ghost use Rattle.std.specs.Option.{option_map_or};
 ghost use Rattle.msrp_plan.specs.declared.rows.Row.{Row as TraceRow};
-ghost use Rattle.msrp_why.specs.Noted.{AreNoted, AreResourcesNoted, IsNoted, is_by, is_change, is_opening, is_user};
+ghost use Rattle.msrp_why.specs.Noted.{AreNoted, AreResourcesNoted, IsNoted, is_by, is_change, is_locker, is_opening, is_user};
 ghost use Rattle.msrp_core.specs.CoreStates.{IsStateAfter};
 
 use crate::exercise::{ResourceCounts, TurnCounts};
@@ -98,13 +98,25 @@ impl ResourceNotes {
         self.counts.note(row.row, before, self.queue.len());
     }
 
+    fn is_locked_by(&self, job: JobId) -> bool
+        ensures { result ≡ is_locker job self.now.last }
+    {
+        match self.last {
+            Some(last) => last.row.kind == Kind::Lock && last.is_of(job),
+            None => false,
+        }
+    }
+
+    fn is_queued(&self, job: JobId) -> bool
+        ensures { result ≡ list_any (is_by job) self.now.queue.items }
+    {
+        self.queue.iter().any(|request| request.is_of(job))
+    }
+
     fn is_used_by(&self, job: JobId) -> bool
         ensures { result ≡ is_user job self.now.last self.now.queue.items }
     {
-        match self.last {
-            Some(last) if last.row.kind == Kind::Lock && last.is_of(job) => true,
-            _ => self.queue.iter().any(|request| request.is_of(job)),
-        }
+        self.is_locked_by(job) || self.is_queued(job)
     }
 }
 
