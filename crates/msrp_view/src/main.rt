@@ -40,16 +40,11 @@ fn answer<W: Write>(rt: &HostRuntime, cmd: Cmd<'_>, out: &mut Sink<W>) -> Result
             let release = release.as_ref().map_or(NO_RELEASE, |text| text.as_slice());
             write_answer(out, release, Ok(0))
         }
-        Cmd::WhyPlan { plan } => {
+        Cmd::WhyPlan(plan) => {
             let name = if plan == "-" { "<stdin>" } else { plan };
             why_plan_text(alloc, name, &mut Source::new(open(rt, plan)?), out)
         }
-        Cmd::Show {
-            view,
-            plan,
-            trace,
-            tick,
-        } => {
+        Cmd::Show(view, plan, trace, tick) => {
             let length = length_of(tick)?;
             let (plan, trace) = open_both(rt, plan, trace)?;
             let (plan, trace) = (&mut Source::new(plan), &mut Source::new(trace));
@@ -94,13 +89,8 @@ fn reason(
         Err(fault) => return Err(*fault),
     };
     let (view, plan, trace) = match command_of(alloc, words.as_slice())? {
-        Cmd::Show {
-            view,
-            plan,
-            trace,
-            ..
-        } => (view, plan, Some(trace)),
-        Cmd::WhyPlan { plan } => (View::Why, plan, None),
+        Cmd::Show(view, plan, trace, _) => (view, plan, Some(trace)),
+        Cmd::WhyPlan(plan) => (View::Why, plan, None),
         Cmd::Help | Cmd::Version => return Ok(String::new(alloc)),
     };
     match (fault, view, trace) {

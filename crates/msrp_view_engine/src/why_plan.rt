@@ -51,6 +51,28 @@ fn first_records(alloc: Global, bytes: &[u8], most: u32) -> Result<Vec<ByteRecor
     Ok(records)
 }
 
+fn refusal_text<'a>(
+    alloc: Global,
+    name: &'a str,
+    text: &'a [u8],
+    fault: PlanFault,
+    number: u32,
+    before: &'a [ByteRecord],
+    row: &'a ByteRecord,
+) -> Result<Vec<u8>, CliFault>
+    ensures { IfErr result (λ fault. fault ≡ CliFault.Memory) }
+{
+    let words = RefusedPlan {
+        name,
+        text,
+        fault,
+        number,
+        before,
+        row,
+    };
+    Ok(format!(in alloc; "{words}")?.into_bytes())
+}
+
 fn refusal_words(alloc: Global, name: &str, text: &[u8], fault: PlanFault, number: u32) -> Outcome
     ensures found { IfOk result (λ words. words.found ≡ Err (fault_of (TextError.At fault number))) }
     ensures memory { IfErr result (λ fault. fault ≡ CliFault.Memory) }
@@ -60,16 +82,8 @@ fn refusal_words(alloc: Global, name: &str, text: &[u8], fault: PlanFault, numbe
     let place = number.saturating_sub(1) as usize;
     let before = records.get(..place).unwrap_or(records.as_slice());
     let row = records.get(place).unwrap_or(&none);
-    let words = RefusedPlan {
-        name,
-        text,
-        fault,
-        number,
-        before,
-        row,
-    };
     Ok(Words {
-        text: format!(in alloc; "{words}")?.into_bytes(),
+        text: refusal_text(alloc, name, text, fault, number, before, row)?,
         found: Err(CliFault::from(TextError::At { fault, number })),
     })
 }
