@@ -1,6 +1,6 @@
 -- What is drawn of a trace: its rows, those before the fault and the others, and the ticks.
 use Rattle.msrp_plan.specs.Common.{ℕ, List, [], Bool, false, Option, Some, None, Ok, Err, drop, length, min, max, nat_lt, nat_le, slice_range, take, unwrap_or, ⊤}
-use Rattle.std.specs.Prelude.{◌==◌, ◌+◌, ◌-◌, ◌*◌, ◌/◌, ◌%◌, ◌&&◌, ◌<◌, if◌then◌else◌, filter}
+use Rattle.std.specs.Prelude.{◌==◌, ◌+◌, ◌-◌, ◌*◌, ◌/◌, ◌%◌, ◌&&◌, if◌then◌else◌, filter}
 use Rattle.msrp_picture.specs.Types.{Asked, Block, Event, Fault, JobId, PlanModel, Result, Row, Window}
 use Rattle.msrp_picture.specs.declared.windows.TheConstants.{SHORT_RUN}
 

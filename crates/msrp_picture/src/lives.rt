@@ -9,8 +9,8 @@ use crate::scene::Scene;
 use crate::shapes::{Block, Event, Lane, Look, Moment, lasting};
 use msrp_plan::{JobId, Kind, Memory, Row, TaskId};
 
-/// When a job is released, has its absolute deadline, and completes. A job that isn't finished lasts
-/// to the end of the legal rows.
+/// When a job is released, has its absolute deadline, and completes. A job that isn't finished
+/// lasts to the end of the legal rows.
 #[derive(Clone, Copy, Debug, PartialEq, Eq)]
 pub struct Life {
     pub job: JobId,

@@ -66,8 +66,8 @@ fn is_at(value: Option<u64>, at: u64) -> bool
 }
 
 impl ResourceCounts {
-    /// After a row on the resource: `last` was its last change before the row, and `queued` jobs are
-    /// in its queue after it.
+    /// After a row on the resource: `last` was its last change before the row, and `queued` jobs
+    /// are in its queue after it.
     pub(crate) fn note(&mut self, row: Row, last: Option<Numbered>, queued: usize)
         ensures free { self.new.free ≡ one_if self.old.free (is_entry row.kind) }
         ensures joined { self.new.joined ≡ one_if self.old.joined (is_queue row.kind) }
