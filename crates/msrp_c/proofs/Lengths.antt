@@ -44,8 +44,8 @@ on-plan-unfailed (Err (Trace c n)) is = refl
 on-plan-unfailed (Err Usage) is = refl
 on-plan-unfailed (Err Memory) is = refl
 on-plan-unfailed (Err Threads) is = refl
-on-plan-unfailed (Err Read) is = absurd (cc)
-on-plan-unfailed (Err Write) is = absurd (cc)
+on-plan-unfailed (Err Read) is = absurd is
+on-plan-unfailed (Err Write) is = absurd is
 
 words-unfailed : (words : Result Words CliFault) → IfOk words (λ made. IsOnPlan made.found) → refusal_in (unfailed words) ≡ unfailed (refusal_in words)
 words-unfailed (Ok words) is = on-plan-unfailed words.found is

@@ -11,7 +11,7 @@ use crate::orders::style_of;
 use msrp_engine::{CliFault, Made};
 use msrp_picture::Asked;
 use msrp_plan::bytes::Source;
-use msrp_view_engine::picture_of_texts;
+use msrp_view_engine::{Drawing, drawing_of_texts};
 use std::alloc::Global;
 
 // The picture of a trace, in the style of this number.
@@ -35,7 +35,7 @@ fn drawn(
     };
     let mut plan = Source::new(plan);
     let mut trace = Source::new(trace);
-    picture_of_texts(alloc, &mut plan, &mut trace, asked)
+    drawing_of_texts(alloc, &mut plan, &mut trace, Drawing::Picture(asked))
 }
 
 /// The picture of a trace, in plain text (style 0) or SVG (1), of the ticks from the first to

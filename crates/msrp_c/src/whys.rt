@@ -2,8 +2,7 @@
 ghost use Rattle.std.specs.Prelude.{◌||◌};
 ghost use Rattle.msrp_plan.specs.Common.{IfOk, Err};
 ghost use Rattle.msrp_text.specs.Reading.{csv_records, plan_of};
-ghost use Rattle.msrp_view_engine.specs.Answers.{IsOnPlan};
-ghost use Rattle.msrp_view_engine.specs.Whys.{IsWhyOf};
+ghost use Rattle.msrp_view_engine.specs.Answers.{IsOnPlan, IsWhyOf};
 ghost use Rattle.msrp_engine.specs.Answered.{OrUnread};
 ghost use Rattle.msrp_c.specs.Answers.{Answers, is_long};
 ghost use Rattle.msrp_c.specs.Whys.{AnswersWords, AreReasonsOf, AreWords, HandsWords};

@@ -9,7 +9,7 @@ use crate::summary::next;
 use crate::walk::{Written, begin_tick, write_end, write_head, write_tick};
 use crate::{gtkw, perfetto, vcd};
 use msrp_plan::bytes::Sink;
-use msrp_plan::{Plan, Row, Rule};
+use msrp_plan::{Fault, Plan, Row, Rule};
 use std::alloc::{AllocError, Global};
 use std::io::Write;
 
@@ -100,26 +100,21 @@ impl<'a> Exporter<'a> {
         write_end(&mut self.text, self.format, &self.signals, next(tick))
     }
 
-    /// Writes the rule that is violated after the rows, and the row that violates it; none if a
-    /// row is missing. The export ends with it.
-    pub fn fault<W: Write>(
+    /// Writes the end: of a whole run, or the rule that is violated after the rows, with the row
+    /// that violates it; none if a row is missing.
+    pub fn end<W: Write>(
         &mut self,
         out: &mut Sink<W>,
-        rule: Rule,
+        found: Result<(), Fault>,
         row: Option<Row>,
     ) -> Result<(), AllocError>
         ensures { WroteSome W.contents out.old out.new }
     {
-        let made = self.make_fault(rule, row);
-        self.put(out, made)
-    }
-
-    /// Writes the end of a whole run.
-    pub fn end<W: Write>(&mut self, out: &mut Sink<W>) -> Result<(), AllocError>
-        ensures { WroteSome W.contents out.old out.new }
-    {
         let ticks = self.signals.plan.ticks();
-        let made = write_end(&mut self.text, self.format, &self.signals, ticks);
+        let made = match found {
+            Ok(()) => write_end(&mut self.text, self.format, &self.signals, ticks),
+            Err(fault) => self.make_fault(fault.rule, row),
+        };
         self.put(out, made)
     }
 }

@@ -1,5 +1,4 @@
 pub mod Types
 pub mod Rows
-pub mod Windows
 pub mod Blocks
 pub mod Shapes

@@ -32,17 +32,10 @@ pub enum View {
 /// A command, with its arguments. A path `-` is standard input.
 #[derive(Clone, Copy, Debug, PartialEq, Eq)]
 pub enum Cmd<'a> {
-    /// Shows a trace of the plan; where the length of a tick is given, with times.
-    Show {
-        view: View,
-        plan: &'a str,
-        trace: &'a str,
-        tick: Option<&'a str>,
-    },
+    /// Shows, of a plan, a trace, with times if the length of a tick is given.
+    Show(View, &'a str, &'a str, Option<&'a str>),
     /// Says in words why the plan is refused, or what is odd in it.
-    WhyPlan {
-        plan: &'a str,
-    },
+    WhyPlan(&'a str),
     /// Prints the help.
     Help,
     /// Prints the version, and the release's kit and commit.
@@ -190,17 +183,12 @@ fn asked_for<'a>(matches: &ArgMatches<'a>) -> Result<Cmd<'a>, CliFault>
     let view = view_of(matches)?;
     if explains_plan(view, value_of(matches, TRACE)) {
         return match value_of(matches, PLAN) {
-            Some(plan) => Ok(Cmd::WhyPlan { plan }),
+            Some(plan) => Ok(Cmd::WhyPlan(plan)),
             None => Err(CliFault::Usage),
         };
     }
     let (plan, trace) = both_paths(matches)?;
-    Ok(Cmd::Show {
-        view,
-        plan,
-        trace,
-        tick: value_of(matches, "tick"),
-    })
+    Ok(Cmd::Show(view, plan, trace, value_of(matches, "tick")))
 }
 
 // What is answered to arguments that are refused: the version or the help, where they ask for it,
@@ -236,12 +224,8 @@ fn unit_in(word: &str) -> Option<(&str, Unit)> {
         Unit::Millisecond,
         Unit::Second,
     ];
-    for unit in units {
-        if let Some(count) = word.strip_suffix(unit.name()) {
-            return Some((count, unit));
-        }
-    }
-    None
+    let mut units = units.iter();
+    units.find_map(|unit| Some((word.strip_suffix(unit.name())?, *unit)))
 }
 
 /// The length of a tick, if it is given: a whole number above 0, and a unit.

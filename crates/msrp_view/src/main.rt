@@ -11,7 +11,7 @@ use msrp_cli::{open, open_both, words_of};
 use msrp_engine::{CliFault, exit_of, write_answer};
 use msrp_hints::{NOT_UTF8, Paths, are_wanted, hint_on};
 use msrp_plan::bytes::{Sink, Source};
-use msrp_view_engine::{export_text, page_text, view_text, why_plan_text, why_text};
+use msrp_view_engine::{Drawing, export_text, view_text, why_plan_text, why_text};
 use std::io::{BufWriter, Write};
 use std::process::ExitCode;
 use std::{env, fs, io};
@@ -40,24 +40,19 @@ fn answer<W: Write>(rt: &HostRuntime, cmd: Cmd<'_>, out: &mut Sink<W>) -> Result
             let release = release.as_ref().map_or(NO_RELEASE, |text| text.as_slice());
             write_answer(out, release, Ok(0))
         }
-        Cmd::WhyPlan { plan } => {
+        Cmd::WhyPlan(plan) => {
             let name = if plan == "-" { "<stdin>" } else { plan };
             why_plan_text(alloc, name, &mut Source::new(open(rt, plan)?), out)
         }
-        Cmd::Show {
-            view,
-            plan,
-            trace,
-            tick,
-        } => {
+        Cmd::Show(view, plan, trace, tick) => {
             let length = length_of(tick)?;
             let (plan, trace) = open_both(rt, plan, trace)?;
-            let (mut plan, mut trace) = (Source::new(plan), Source::new(trace));
+            let (plan, trace) = (&mut Source::new(plan), &mut Source::new(trace));
             match view {
-                View::Picture(asked) => view_text(alloc, &mut plan, &mut trace, out, asked),
-                View::Why => why_text(alloc, &mut plan, &mut trace, out),
-                View::Export(format) => export_text(alloc, &mut plan, &mut trace, out, format),
-                View::Page => page_text(alloc, &mut plan, &mut trace, out, length),
+                View::Picture(asked) => view_text(alloc, plan, trace, out, Drawing::Picture(asked)),
+                View::Why => why_text(alloc, plan, trace, out),
+                View::Export(format) => export_text(alloc, plan, trace, out, format),
+                View::Page => view_text(alloc, plan, trace, out, Drawing::Page(length)),
             }
         }
     }
@@ -94,13 +89,8 @@ fn reason(
         Err(fault) => return Err(*fault),
     };
     let (view, plan, trace) = match command_of(alloc, words.as_slice())? {
-        Cmd::Show {
-            view,
-            plan,
-            trace,
-            ..
-        } => (view, plan, Some(trace)),
-        Cmd::WhyPlan { plan } => (View::Why, plan, None),
+        Cmd::Show(view, plan, trace, _) => (view, plan, Some(trace)),
+        Cmd::WhyPlan(plan) => (View::Why, plan, None),
         Cmd::Help | Cmd::Version => return Ok(String::new(alloc)),
     };
     match (fault, view, trace) {

@@ -1,20 +1,14 @@
 -- What is found in rows that are judged as they are read: the cause of a fault, or the refusal
 -- after them, and the words on it.
 use Rattle.std.proofs.Common.{◌≡◌, ◌⊎◌, ◌+◌, ◌-◌, ◌++◌, ◌∷◌, ◌∙◌}
-use Rattle.msrp_plan.proofs.Common.{[], ℕ, true, List, Option, Some, None, IfOk, IfErr, ap, sym, subst, inl, inr, append_assoc, same_Some, ⊤, IfSome, option_or, PlanModel, fault_in, missing, verdict}
+use Rattle.msrp_plan.proofs.Common.{[], ℕ, true, List, Option, Some, None, Result, Ok, Err, IfOk, IfErr, ap, sym, subst, inl, inr, append_assoc, same_Some, ⊤, IfSome, option_or, PlanModel, fault_in, missing, verdict}
 use Rattle.msrp_plan.specs.Common.{IsOkAnd}
-use Rattle.msrp_plan.specs.declared.bytes.Sink.{Sink}
-use Rattle.msrp_plan.specs.declared.faults.Fault.{Fault}
-use Rattle.msrp_view_engine.proofs.Common.{Answers, AreNoted, AreOnTrace, BeginsRow, CliFault, IsExplainedOf, IsJudged, IsReadTo, NoMemory, Opens, OrUnread, ReadFault, Row, TextError, Told, TraceError, WhyAnswers, WritesWords, answer_of, fault_of, finding, finding_of, is_record_fault, read-refused, read-whole, rows_of, trace_fault_of, unopened}
-use Rattle.std.specs.declared.result.Result.{Result}
-use Rattle.std.specs.declared.result.Result.TheVariants.{Ok, Err}
-use Rattle.msrp_text.specs.Lines.{BeginsIn}
-use Rattle.msrp_why.specs.Causes.{IsCauseAfter}
+use Rattle.msrp_view_engine.proofs.Common.{Answers, AreNoted, AreOnTrace, BeginsIn, BeginsRow, CliFault, Fault, IsCauseAfter, IsExplainedOf, IsJudged, IsReadTo, NoMemory, Opens, OrUnread, ReadFault, Row, Sink, TextError, Told, TraceError, WhyAnswers, WritesWords, answer_of, fault_of, finding, finding_of, is_record_fault, read-refused, read-whole, rows_of, trace_fault_of, unopened}
 use Rattle.msrp_why.specs.declared.causes.Cause.{Cause}
-use Rattle.msrp_why.specs.declared.causes.Ground.TheVariants.{End, Row as AtRow}
 use Rattle.msrp_why.specs.declared.notes.Notes.{Notes}
 use Rattle.msrp_engine.proofs.Judging as judging
 use Rattle.msrp_view_engine.specs.declared.why.Judged.{Judged}
+use Rattle.msrp_view_engine.specs.declared.why.Judged.TheVariants.{End, Row as AtRow}
 use Rattle.msrp_view_engine.specs.declared.words.Words.{Words}
 
 -- an error of the reader, behind good rows
@@ -30,10 +24,10 @@ refusal-judged plan told rows left after result error answer is next e good give
 
 -- a faulty row, with its cause
 pub cause-found : (plan : PlanModel) (told : Told) (rows : List Row) (r : Row) (left : Option Told) (fault : Fault) (cause : Cause) → IsReadTo told (rows ++ r ∷ []) left → fault_in plan (rows ++ r ∷ []) ≡ Some fault → IsCauseAfter plan rows r cause
-    → IsJudged plan told (Ok (record { verdict = Err fault; ground = AtRow cause }))
+    → IsJudged plan told (Ok (AtRow cause))
 cause-found plan told rows r left fault cause more broken is = (
-  judging.fault-found plan told (rows ++ r ∷ []) more.rest fault more.whole broken,
-  (ap (λ f. Err f) (same_Some fault cause.fault (sym broken ∙ is.fault)), record { before = rows; row = r; behind = more.rest; place = more.whole ∙ append_assoc rows (r ∷ []) more.rest; is = is }),
+  judging.fault-found plan told (rows ++ r ∷ []) more.rest fault more.whole broken ∙ ap (λ f. Ok (Err f)) (same_Some fault cause.fault (sym broken ∙ is.fault)),
+  record { before = rows; row = r; behind = more.rest; place = more.whole ∙ append_assoc rows (r ∷ []) more.rest; is = is },
 )
 
 -- the line that is told of it
@@ -44,7 +38,7 @@ line-found fault cause bytes line same told begins =
 -- rows without a fault, at the end
 pub end-found : (plan : PlanModel) (told : Told) (rows : List Row) (left after : Option Told) (result : Result (Option Row) TraceError) (found : Result ⊤ Fault) (notes : Notes)
     → IsReadTo told rows left → Answers left result after → result ≡ Ok None → fault_in plan rows ≡ None → found ≡ answer_of (verdict plan rows) → AreNoted plan rows notes
-    → IsJudged plan told (Ok (record { verdict = found; ground = End notes }))
+    → IsJudged plan told (Ok (End found notes))
 end-found plan told rows left after result found notes is next e good answer noted =
     let whole = read-whole told rows left after result is next e in
     let short : verdict plan rows ≡ missing plan rows = ap (λ o. option_or o (missing plan rows)) good in
@@ -55,10 +49,10 @@ abbrev pub IsExplained : PlanModel → Told → Result Words CliFault → Type 0
 IsExplained plan told answer = OrUnread answer (IsOkAnd answer (λ words. words.found ≡ finding plan told))
 
 -- on a verdict
-pub judged-explained : (plan : PlanModel) (told : Told) (judged : Judged) (answer : Result Words CliFault) → IsJudged plan told (Ok judged)
-    → IfOk answer (λ words. words.found ≡ Ok judged.verdict) → IfErr answer (λ fault. fault ≡ NoMemory) → IsExplained plan told answer
-judged-explained plan told judged (Ok words) is found memory = inr (inr (found ∙ sym is.0))
-judged-explained plan told judged (Err fault) is found memory = inr (inl (ap (λ x. Err x) memory))
+pub judged-explained : (plan : PlanModel) (told : Told) (verdict : Result ⊤ Fault) (answer : Result Words CliFault) → finding plan told ≡ Ok verdict
+    → IfOk answer (λ words. words.found ≡ Ok verdict) → IfErr answer (λ fault. fault ≡ NoMemory) → IsExplained plan told answer
+judged-explained plan told verdict (Ok words) is found memory = inr (inr (found ∙ sym is))
+judged-explained plan told verdict (Err fault) is found memory = inr (inl (ap (λ x. Err x) memory))
 
 -- a read that failed, or want of memory, has no words
 no-record : (x : CliFault) (words : Words) → words.found ≡ Err x → AreOnTrace words → is_record_fault x ≡ true

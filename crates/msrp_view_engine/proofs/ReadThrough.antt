@@ -1,14 +1,7 @@
 -- A text that is read to its end: its rows, or its records.
 use Rattle.std.proofs.Common.{◌≡◌, ◌∙◌, ◌+◌, ◌≤◌, ◌∷◌, ◌++◌}
 use Rattle.msrp_plan.proofs.Common.{[], ℕ, List, Option, None, Some, Result, Ok, Err, length, drop, take, ap, arith, sym, inl, inr, length-drop, slice_index_or, cases_lt, drop_more, take_all, take_more}
-use Rattle.msrp_plan.specs.declared.rows.Row.{Row}
-use Rattle.msrp_trace.specs.Reading.{Told}
-use Rattle.msrp_trace.specs.declared.faults.TraceError.{TraceError}
-use Rattle.msrp_trace.proofs.ReadThrough.{Answers, IsError, IsReadTo, read-whole}
-use Rattle.msrp_engine.specs.Answered.{OrUnread}
-use Rattle.msrp_faults.specs.Outcomes.{trace_fault_of}
-use Rattle.msrp_faults.specs.declared.faults.CliFault.{CliFault}
-use Rattle.msrp_view_engine.specs.Answers.{rows_in, rows_or, rows_read}
+use Rattle.msrp_view_engine.proofs.Common.{Answers, CliFault, IsError, IsReadTo, OrUnread, Row, Told, TraceError, read-whole, rows_in, rows_or, rows_read, trace_fault_of}
 use Rattle.msrp_view_engine.specs.declared.view.Gathered.{Gathered}
 
 -- at the end all rows were read

@@ -1,24 +1,14 @@
 -- What is found in texts, and what the engines answer.
-use Rattle.std.specs.Prelude.{◌≡◌, ◌++◌}
-use Rattle.msrp_plan.specs.Common.{ℕ, Bool, false, true, List, Option, Some, None, Ok, Err, IfErr, ⊤, Result, PlanModel, verdict, verdict_text}
-use Rattle.msrp_plan.specs.declared.bytes.Sink.{Sink}
-use Rattle.msrp_plan.specs.declared.faults.Fault.{Fault}
-use Rattle.msrp_plan.specs.declared.rows.Row.{Row}
-use Rattle.msrp_audit.specs.Audits.{answer_of}
-use Rattle.msrp_text.specs.declared.reading.TextError.{TextError}
-use Rattle.msrp_trace.specs.Reading.{Told, rows_of}
-use Rattle.msrp_trace.specs.declared.faults.TraceError.{TraceError}
-use Rattle.msrp_picture.specs.Windows.{window_of}
-use Rattle.msrp_picture.specs.declared.windows.Asked.{Asked}
-use Rattle.msrp_picture.specs.declared.windows.Window.{Window}
-use Rattle.msrp_faults.specs.Outcomes.{answered, fault_of, is_plan_code, is_trace_code, trace_fault_of}
-use Rattle.msrp_faults.specs.declared.faults.CliFault.{CliFault}
+use Rattle.std.specs.Prelude.{◌≡◌, ◌⊎◌, ◌+◌, ◌++◌}
+use Rattle.msrp_plan.specs.Common.{ℕ, Bool, false, true, List, Option, Some, None, Ok, Err, IfErr, IfOk, IfSome, IsOkAnd, ⊤, Result, PlanModel, Wrote, verdict, verdict_text}
+use Rattle.msrp_view_engine.specs.Common.{AreNoted, BeginsIn, CliFault, Fault, IsCauseIn, Made, Row, Sink, TextError, Told, TraceError, Window, answer_of, answered, fault_of, finding, finding_of, found_in, is_audit_fault, is_plan_code, is_trace_code, missing, rows_of, trace_fault_of, verdict_status, window_of}
+use Rattle.msrp_trace.specs.declared.faults.TraceError.TheVariants as trace
 use Rattle.msrp_faults.specs.declared.faults.CliFault.TheVariants as cli
-use Rattle.msrp_engine.specs.AuditText.{verdict_status}
-use Rattle.msrp_engine.specs.Findings.{finding}
-use Rattle.msrp_engine.specs.MadeTexts.{found_in}
-use Rattle.msrp_engine.specs.declared.made.Made.{Made}
+use Rattle.msrp_view_engine.specs.declared.view.Drawing.{Drawing}
+use Rattle.msrp_view_engine.specs.declared.view.Drawing.TheVariants.{Page, Picture}
 use Rattle.msrp_view_engine.specs.declared.view.Gathered.{Gathered}
+use Rattle.msrp_view_engine.specs.declared.why.Judged.{Judged}
+use Rattle.msrp_view_engine.specs.declared.why.Judged.TheVariants.{End, Row as AtRow}
 use Rattle.msrp_view_engine.specs.declared.words.Words.{Words}
 
 -- the status of the verdict, or the refusal
@@ -30,12 +20,7 @@ answer_to (Err fault) = Err fault
 abbrev pub Refuses : {W : Type 0} → CliFault → Sink W → Sink W → Result ℕ CliFault → Type 0
 Refuses fault old new result = (result ≡ Err fault) × (new ≡ old)
 
--- the answer where a text is written with the verdict that is found; a fault has no text
-abbrev pub Tells : {W : Type 0} → Result (Result ⊤ Fault) CliFault → Sink W → Sink W → Result ℕ CliFault → Type 0
-Tells (Ok verdict) old new result = result ≡ answered (answer_to (Ok verdict)) new
-Tells (Err fault) old new result = Refuses fault old new result
-
--- ---- pictures
+-- ---- pictures, and pages for a browser
 -- all rows of the trace, or the refusal after them
 abbrev pub rows_or : List Row → Option TraceError → Result (List Row) CliFault
 rows_or rows None = Ok rows
@@ -58,28 +43,29 @@ abbrev pub found_within : PlanModel → Told → Option Window → Result (Resul
 found_within plan told (Some window) = verdict_on plan (rows_read told)
 found_within plan told None = Err cli.Usage
 
+-- what comes with a drawing: a picture has a window, and a page has all ticks
+abbrev pub found_drawn : PlanModel → Told → Drawing → Result (Result ⊤ Fault) CliFault
+found_drawn plan told (Picture asked) = found_within plan told (window_of plan asked)
+found_drawn plan told (Page length) = verdict_on plan (rows_read told)
+
 -- what is found in the text of an accepted or a refused plan, and in a trace's records
-abbrev pub picture_found : Result PlanModel TextError → List (List (List ℕ)) → Asked → Result (Result ⊤ Fault) CliFault
-picture_found (Ok plan) records asked = found_within plan (rows_of plan records) (window_of plan asked)
-picture_found (Err error) records asked = Err (fault_of error)
+abbrev pub drawing_found : Result PlanModel TextError → List (List (List ℕ)) → Drawing → Result (Result ⊤ Fault) CliFault
+drawing_found (Ok plan) records drawing = found_drawn plan (rows_of plan records) drawing
+drawing_found (Err error) records drawing = Err (fault_of error)
 
--- the picture in memory comes with that
-abbrev pub IsPictureOf : Result PlanModel TextError → List (List (List ℕ)) → Asked → Result Made CliFault → Type 0
-IsPictureOf plan records asked made = found_in made ≡ picture_found plan records asked
+-- the drawing in memory comes with that
+abbrev pub IsDrawingOf : Result PlanModel TextError → List (List (List ℕ)) → Drawing → Result Made CliFault → Type 0
+IsDrawingOf plan records drawing made = found_in made ≡ drawing_found plan records drawing
 
--- the answer where the picture is written
-abbrev pub ViewAnswers : {W : Type 0} → Result PlanModel TextError → List (List (List ℕ)) → Asked → Sink W → Sink W → Result ℕ CliFault → Type 0
-ViewAnswers plan records asked old new result = Tells (picture_found plan records asked) old new result
+-- the answer where a drawing is written: a fault has none
+abbrev pub WritesDrawing : {W : Type 0} → Result (Result ⊤ Fault) CliFault → Sink W → Sink W → Result ℕ CliFault → Type 0
+WritesDrawing (Ok verdict) old new result = result ≡ answered (answer_to (Ok verdict)) new
+WritesDrawing (Err fault) old new result = Refuses fault old new result
 
--- ---- pages
--- what is found in the text of an accepted or a refused plan, and in a trace's records
-abbrev pub page_found : Result PlanModel TextError → List (List (List ℕ)) → Result (Result ⊤ Fault) CliFault
-page_found (Ok plan) records = verdict_on plan (rows_read (rows_of plan records))
-page_found (Err error) records = Err (fault_of error)
-
--- the answer where the page is written
-abbrev pub PageAnswers : {W : Type 0} → Result PlanModel TextError → List (List (List ℕ)) → Sink W → Sink W → Result ℕ CliFault → Type 0
-PageAnswers plan records old new result = Tells (page_found plan records) old new result
+-- the faults of a drawing: those of an audit, and wrong usage for a picture
+abbrev pub is_drawing_fault : CliFault → Drawing → Bool
+is_drawing_fault cli.Usage (Picture asked) = true
+is_drawing_fault fault drawing = is_audit_fault fault
 
 -- ---- exports
 -- the status of a verdict if the sink took all, and a refusal in any case
@@ -92,7 +78,7 @@ abbrev pub ExportAnswers : {W : Type 0} → Result PlanModel TextError → List 
 ExportAnswers (Ok plan) records old new result = result ≡ export_answer (finding plan (rows_of plan records)) new
 ExportAnswers (Err error) records old new result = Refuses (fault_of error) old new result
 
--- ---- words on a trace
+-- ---- why a trace is not legal
 -- a record of a trace is refused
 abbrev pub is_record_fault : CliFault → Bool
 is_record_fault (cli.Trace code number) = is_trace_code code
@@ -108,22 +94,52 @@ pub record AreOnTrace (words : Words) : Type 0 where
   pub refused : IfErr words.found (λ fault. is_record_fault fault ≡ true)
   pub begins : BeginsWith words.found words.text.items
 
--- ---- words on a plan
+-- what an audit of these rows finds, with the cause; or the refusal after them, a failed read or
+-- a failed allocation
+abbrev pub IsJudged : PlanModel → Told → Result Judged TraceError → Type 0
+IsJudged plan told (Ok (AtRow cause)) = (finding plan told ≡ Ok (Err cause.fault)) × IsCauseIn plan told.rows cause
+IsJudged plan told (Ok (End verdict notes)) = (finding plan told ≡ Ok verdict) × (verdict ≡ answer_of (missing plan told.rows)) × AreNoted plan told.rows notes
+IsJudged plan told (Err error) = (error ≡ trace.Read) ⊎ (error ≡ trace.Memory) ⊎ ((finding plan told ≡ Err (trace_fault_of error)) × (told.refusal ≡ Some error))
+
+-- if the line of a refused row is known, its record begins in it; the head is the first record
+abbrev pub BeginsRow : List ℕ → Judged → Type 0
+BeginsRow bytes (AtRow cause) = IfSome cause.line (BeginsIn bytes (cause.fault.row + 1))
+BeginsRow bytes (End verdict notes) = ⊤
+
+-- if the line of a refused record is known, it begins in it
+abbrev pub BeginsRefused : List ℕ → TraceError → Option ℕ → Type 0
+BeginsRefused bytes (trace.At fault number) line = IfSome line (BeginsIn bytes number)
+BeginsRefused bytes _ line = ⊤
+
+-- the words on the text of an accepted or a refused plan, and on a trace's records
+abbrev pub IsExplainedOf : Result PlanModel TextError → List (List (List ℕ)) → Result Words CliFault → Type 0
+IsExplainedOf (Ok plan) records answer = IsOkAnd answer (λ words. words.found ≡ finding plan (rows_of plan records))
+IsExplainedOf (Err error) records answer = answer ≡ Err (fault_of error)
+
+-- the verdict, and the words on it in memory
+abbrev pub IsWhyOf : Result PlanModel TextError → List (List (List ℕ)) → Result Made CliFault → Type 0
+IsWhyOf plan records made = (found_in made ≡ finding_of plan records) × IfOk made (λ words. BeginsWith (Ok words.found) words.text.items)
+
+-- words are written that begin so, and that is answered
+pub record WritesWords {W : Type 0} (contents : W → Option (List ℕ)) (found : Result (Result ⊤ Fault) CliFault) (old new : Sink W) (result : Result ℕ CliFault) : Type 0 where
+  pub text : List ℕ
+  pub begins : BeginsWith found text
+  pub wrote : Wrote contents old new text
+  pub status : result ≡ answered (answer_to found) new
+
+-- the answer where the words are written: a refused plan has none
+abbrev pub WhyAnswers : {W : Type 0} → (W → Option (List ℕ)) → Result PlanModel TextError → List (List (List ℕ)) → Sink W → Sink W → Result ℕ CliFault → Type 0
+WhyAnswers contents (Ok plan) records old new result = WritesWords contents (finding plan (rows_of plan records)) old new result
+WhyAnswers contents (Err error) records old new result = Refuses (fault_of error) old new result
+
+-- ---- what is wrong or odd in a plan
 -- nothing is wrong with an accepted plan, and a refused one has its refusal
 abbrev pub plan_found : Result PlanModel TextError → Result (Result ⊤ Fault) CliFault
 plan_found (Ok plan) = Ok (Ok tt)
 plan_found (Err error) = Err (fault_of error)
 
--- a record of a plan is refused
-abbrev pub is_plan_refusal : CliFault → Bool
-is_plan_refusal (cli.Plan code number) = is_plan_code code
-is_plan_refusal _ = false
-
 -- the plan is accepted, or one of its records is refused
 abbrev pub IsOnPlan : Result (Result ⊤ Fault) CliFault → Type 0
 IsOnPlan (Ok verdict) = verdict ≡ Ok tt
-IsOnPlan (Err fault) = is_plan_refusal fault ≡ true
-
--- the answer to a plan's text, where its words are written
-abbrev pub WhyPlanAnswers : {W : Type 0} → Result PlanModel TextError → Sink W → Result ℕ CliFault → Type 0
-WhyPlanAnswers read new result = result ≡ answered (answer_to (plan_found read)) new
+IsOnPlan (Err (cli.Plan code number)) = is_plan_code code ≡ true
+IsOnPlan (Err _) = ⊥

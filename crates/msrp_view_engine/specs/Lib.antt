@@ -1,2 +1,2 @@
+pub mod Common
 pub mod Answers
-pub mod Whys

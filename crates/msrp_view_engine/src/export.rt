@@ -1,38 +1,20 @@
 //! A trace in the format of another tool.
 ghost use Rattle.std.specs.Prelude.{◌≡◌, ◌⊎◌};
 ghost use Rattle.msrp_plan.specs.Common.{[], true, Some, Err, IfErr, WroteSome};
-ghost use Rattle.msrp_audit.specs.Audits.{HasFed};
-ghost use Rattle.msrp_trace.specs.Reading.{Told, rows_of};
-ghost use Rattle.msrp_engine.specs.Answered.{Ends, IsVerdict, OfText, OfTexts, ReadsBoth};
-ghost use Rattle.msrp_engine.specs.Findings.{finding};
-ghost use Rattle.msrp_engine.specs.Judging.{rows_left};
-ghost use Rattle.msrp_faults.specs.Outcomes.{is_audit_fault, is_trace_fault};
-ghost use Rattle.msrp_view_engine.specs.Answers.{ExportAnswers, export_answer};
+ghost use Rattle.msrp_view_engine.specs.Common.{Ends, HasFed, IsVerdict, OfText, OfTexts, ReadsBoth, Told, finding, is_audit_fault, is_trace_fault, rows_left, rows_of};
+ghost use Rattle.msrp_view_engine.specs.Answers.{ExportAnswers};
 
 use crate::words::answer_to;
 use msrp_audit::Auditor;
-use msrp_engine::{CliFault, JudgedRows, Judgement, settled};
+use msrp_engine::{CliFault, JudgedRows, Judgement, settled, write_answer};
 use msrp_export::{Exporter, Format};
 use msrp_levels::Levels;
 use msrp_plan::bytes::{Sink, Source};
 use msrp_plan::{Fault, Plan};
 use msrp_text::read_plan;
 use msrp_trace::TraceReader;
-use std::alloc::{AllocError, Global};
+use std::alloc::Global;
 use std::io::{Read, Write};
-
-fn write_end<W: Write>(
-    exporter: &mut Exporter<'_>,
-    out: &mut Sink<W>,
-    found: Result<(), Fault>,
-) -> Result<(), AllocError>
-    ensures { WroteSome W.contents out.old out.new }
-{
-    match found {
-        Ok(()) => exporter.end(out),
-        Err(fault) => exporter.fault(out, fault.rule, None),
-    }
-}
 
 // Writes the rows that are left, and answers the verdict. None is read after a faulty one.
 fn export_rows<T: Read, W: Write>(
@@ -55,12 +37,12 @@ fn export_rows<T: Read, W: Write>(
         match rows.next_row()? {
             Judgement::Legal(row) => exporter.row(out, row)?,
             Judgement::Broken(row, broken) => {
-                exporter.fault(out, broken.fault.rule, Some(row))?;
+                exporter.end(out, Err(broken.fault), Some(row))?;
                 return Ok(Err(broken.fault));
             }
             Judgement::End => {
                 let found = rows.auditor().end();
-                write_end(&mut exporter, out, found)?;
+                exporter.end(out, found, None)?;
                 return Ok(found);
             }
         }
@@ -90,24 +72,6 @@ fn export_all<T: Read, W: Write>(
     found
 }
 
-// Writes a trace of an accepted plan, and answers the status of its verdict. What ends the reading
-// early may be reported as a failed read.
-fn export_plan<T: Read, W: Write>(
-    alloc: Global,
-    plan: &Plan,
-    trace: &mut Source<T>,
-    out: &mut Sink<W>,
-    format: Format,
-) -> Result<u8, CliFault>
-    ensures answer { OfText T.remaining trace.old result (λ records. result ≡ export_answer (finding plan.now (rows_of plan.now records)) out.new) }
-    ensures wrote { WroteSome W.contents out.old out.new }
-    ensures ends { Ends IsVerdict (λ fault. (is_trace_fault fault ≡ true) ⊎ (fault ≡ CliFault.Write)) out.new result }
-{
-    let found = export_all(alloc, plan, trace, out, format)?;
-    out.outcome()?;
-    answer_to(Ok(found))
-}
-
 /// Reads a plan and a trace from any source, and writes the trace in a format: all of a legal run,
 /// or else the rows before the first that violates a rule, and the fault. The answer is the exit
 /// status of an audit, 0 or 1.
@@ -128,6 +92,7 @@ pub fn export_text<P: Read, T: Read, W: Write>(
     ensures ends { Ends IsVerdict (λ fault. is_audit_fault fault ≡ true) out.new result }
 {
     let plan = read_plan(alloc, plan)?;
-    let answer = export_plan(alloc, &plan, trace, out, format);
-    settled(answer, trace)
+    let found = export_all(alloc, &plan, trace, out, format);
+    let found = settled(found, trace)?;
+    write_answer(out, &[], answer_to(Ok(found)))
 }

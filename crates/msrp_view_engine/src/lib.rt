@@ -13,7 +13,7 @@ mod why_plan;
 mod words;
 
 pub use export::export_text;
-pub use view::{page_text, picture_of_texts, view_text};
+pub use view::{Drawing, drawing_of_texts, view_text};
 pub use why::{why_of_refused_row, why_of_row, why_of_texts, why_text};
 pub use why_plan::{why_of_plan, why_plan_text};
 pub use words::Words;

@@ -2,19 +2,10 @@
 //! place.
 ghost use Rattle.std.specs.Prelude.{◌≡◌, ◌⊎◌, ◌+◌};
 ghost use Rattle.msrp_plan.specs.Common.{ℕ, List, [], true, Ok, Some, None, Err, IfOk, IfErr, IfSome, IsOkAnd, WroteSome};
-ghost use Rattle.msrp_audit.specs.Audits.{HasFed};
-ghost use Rattle.msrp_text.specs.Lines.{BeginsIn};
-ghost use Rattle.msrp_trace.specs.Reading.{Told, rows_of};
-ghost use Rattle.msrp_trace.specs.Readers.{HasReadBehind, HasReadIn};
-ghost use Rattle.msrp_engine.specs.Answered.{Ends, IsVerdict, ReadsBoth, OfText, OfTexts, OrUnread};
-ghost use Rattle.msrp_engine.specs.Findings.{finding};
-ghost use Rattle.msrp_faults.specs.Outcomes.{is_audit_fault, is_plan_fault, trace_fault_of};
-ghost use Rattle.msrp_why.specs.Noted.{AreNoted};
-ghost use Rattle.msrp_view_engine.specs.Answers.{AreOnTrace, is_record_fault};
-ghost use Rattle.msrp_engine.specs.Judging.{rows_left};
-ghost use Rattle.msrp_view_engine.specs.Whys.{BeginsRefused, BeginsRow, IsExplainedOf, IsJudged, IsWhyOf, WhyAnswers};
+ghost use Rattle.msrp_view_engine.specs.Common.{AreNoted, BeginsIn, Ends, HasFed, HasReadBehind, HasReadIn, IsVerdict, OfText, OfTexts, OrUnread, ReadsBoth, Told, finding, is_audit_fault, is_plan_fault, rows_left, rows_of, trace_fault_of};
+ghost use Rattle.msrp_view_engine.specs.Answers.{AreOnTrace, BeginsRefused, BeginsRow, IsExplainedOf, IsJudged, IsWhyOf, WhyAnswers, is_record_fault};
 
-use crate::words::{Words, answer_to};
+use crate::words::{Outcome, Words, answer_to};
 use csv::ByteRecord;
 use msrp_audit::Auditor;
 use msrp_engine::{
@@ -25,15 +16,16 @@ use msrp_plan::bytes::{Sink, Source};
 use msrp_plan::{Fault, Plan, Row};
 use msrp_text::read_plan;
 use msrp_trace::{TraceError, TraceReader};
-use msrp_why::{Ended, Ground, Notes, RefusedRecord, RefusedRow, Why, cause_of};
+use msrp_why::{Cause, Ended, Notes, RefusedRecord, RefusedRow, Why, cause_of};
 use std::alloc::Global;
 use std::fmt::Display;
 use std::io::{Read, Write};
 
+// The cause of a fault, or the verdict at the end with what was noted.
 #[derive(Debug, Drop)]
-struct Judged {
-    verdict: Result<(), Fault>,
-    ground: Ground,
+enum Judged {
+    Row(Cause),
+    End(Result<(), Fault>, Notes),
 }
 
 // The line in which the record of a faulty row begins, if it is known. The first record is the
@@ -67,7 +59,7 @@ fn judge_rows<T: Read>(
     requires fed { HasFed rows.old.auditor [] }
     requires noted { AreNoted plan.now [] notes }
     ensures found { (told : Told) → rows_left T.remaining rows.old ≡ Some told → IsJudged plan.now told result }
-    ensures line { (bytes : List ℕ) → HasReadIn T.remaining bytes rows.old.rows → IfOk result (λ judged. BeginsRow bytes judged.ground) }
+    ensures line { (bytes : List ℕ) → HasReadIn T.remaining bytes rows.old.rows → IfOk result (BeginsRow bytes) }
     ensures read { (bytes : List ℕ) → HasReadIn T.remaining bytes rows.old.rows → IfErr result (λ error. HasReadBehind T.remaining bytes (Err error) rows.new.rows) }
 {
     loop {
@@ -78,23 +70,15 @@ fn judge_rows<T: Read>(
                 let (auditor, state) = (rows.auditor(), rows.state());
                 let line = line_of_row(rows.reader(), fault);
                 let cause = cause_of(plan, auditor, notes, state, expected, row, line, fault);
-                let (verdict, ground) = (Err(fault), Ground::Row(cause));
-                return Ok(Judged { verdict, ground });
+                return Ok(Judged::Row(cause));
             }
-            Judgement::End => {
-                let (verdict, ground) = (rows.auditor().end(), Ground::End(notes));
-                return Ok(Judged { verdict, ground });
-            }
+            Judgement::End => return Ok(Judged::End(rows.auditor().end(), notes)),
         }
     }
 }
 
 // A verdict with these words, in memory.
-fn words_with<T: Display>(
-    alloc: Global,
-    verdict: Result<(), Fault>,
-    reasons: &T,
-) -> Result<Words, CliFault>
+fn words_with<T: Display>(alloc: Global, verdict: Result<(), Fault>, reasons: &T) -> Outcome
     ensures found { IfOk result (λ words. words.found ≡ Ok verdict) }
     ensures words { IfOk result AreOnTrace }
     ensures memory { IfErr result (λ fault. fault ≡ CliFault.Memory) }
@@ -117,7 +101,7 @@ pub fn why_of_row(
     auditor: &Auditor<'_>,
     row: Row,
     broken: Broken,
-) -> Result<Words, CliFault>
+) -> Outcome
     requires plan { auditor.now.plan ≡ plan.now }
     requires levels { levels.now ≡ plan.now }
     ensures found { IfOk result (λ words. words.found ≡ Ok (Err broken.fault)) }
@@ -131,7 +115,7 @@ pub fn why_of_row(
 }
 
 /// The words on a fed row that is not one of the plan, by the number after R of its code.
-pub fn why_of_refused_row(alloc: Global, code: u32, number: u32) -> Result<Words, CliFault>
+pub fn why_of_refused_row(alloc: Global, code: u32, number: u32) -> Outcome
     ensures found { IfOk result (λ words. words.found ≡ Err (CliFault.Trace code number)) }
     ensures memory { IfErr result (λ fault. fault ≡ CliFault.Memory) }
 {
@@ -147,7 +131,7 @@ fn words_on_refusal(
     error: TraceError,
     line: Option<u64>,
     row: &ByteRecord,
-) -> Result<Words, CliFault>
+) -> Outcome
     ensures found { IfOk result (λ words. words.found ≡ Err (trace_fault_of error)) }
     ensures words { IfOk result AreOnTrace }
     ensures fault { IfErr result (λ fault. (fault ≡ CliFault.Memory) ⊎ (fault ≡ CliFault.Read)) }
@@ -174,7 +158,7 @@ fn explain_rows<T: Read>(
     levels: &Levels<'_>,
     notes: Notes,
     rows: &mut JudgedRows<'_, '_, T>,
-) -> Result<Words, CliFault>
+) -> Outcome
     requires plan { rows.old.auditor.plan ≡ plan.now }
     requires levels { levels.now ≡ plan.now }
     requires fed { HasFed rows.old.auditor [] }
@@ -190,23 +174,19 @@ fn explain_rows<T: Read>(
             return words_on_refusal(alloc, plan, error, line, rows.reader().refused_record());
         }
     };
-    let (verdict, version) = (judged.verdict, rows.reader().version());
-    match &judged.ground {
-        Ground::Row(cause) => {
+    let version = rows.reader().version();
+    match &judged {
+        Judged::Row(cause) => {
             let why = Why::new(plan, levels, Some(version), cause);
-            words_with(alloc, verdict, &why)
+            words_with(alloc, Err(cause.fault), &why)
         }
-        Ground::End(notes) => words_with(alloc, verdict, &Ended(plan, version, notes)),
+        Judged::End(verdict, notes) => words_with(alloc, *verdict, &Ended(plan, version, notes)),
     }
 }
 
 /// The words on a trace of an accepted plan. What ends the reading early may be reported as a
 /// failed read.
-pub(crate) fn explain_all<T: Read>(
-    alloc: Global,
-    plan: &Plan,
-    trace: &mut Source<T>,
-) -> Result<Words, CliFault>
+pub(crate) fn explain_all<T: Read>(alloc: Global, plan: &Plan, trace: &mut Source<T>) -> Outcome
     ensures explained { OfText T.remaining trace.old result (λ records. IsOkAnd result (λ words. words.found ≡ finding plan.now (rows_of plan.now records))) }
     ensures words { IfOk result AreOnTrace }
     ensures fault { IfErr result (λ fault. (fault ≡ CliFault.Memory) ⊎ (fault ≡ CliFault.Read)) }
@@ -226,11 +206,7 @@ pub(crate) fn explain_all<T: Read>(
     words
 }
 
-fn explain<P: Read, T: Read>(
-    alloc: Global,
-    plan: &mut Source<P>,
-    trace: &mut Source<T>,
-) -> Result<Words, CliFault>
+fn explain<P: Read, T: Read>(alloc: Global, plan: &mut Source<P>, trace: &mut Source<T>) -> Outcome
     ensures explained { OfTexts P.remaining T.remaining plan.old trace.old result (λ plan records. IsExplainedOf plan records result) }
     ensures words { IfOk result AreOnTrace }
     ensures reads { ReadsBoth P.remaining plan.old plan.new trace.old trace.new result }
@@ -252,12 +228,11 @@ pub fn why_of_texts<P: Read, T: Read>(
     ensures faults { IfErr result (λ fault. is_audit_fault fault ≡ true) }
     ensures unwritten { ¬ (result ≡ Err CliFault.Write) }
 {
-    let words = explain(alloc, plan, trace)?;
-    let text = words.text;
-    match words.found {
-        Ok(found) => Ok(Made { text, found }),
-        Err(fault) => Err(fault),
-    }
+    let Words { text, found } = explain(alloc, plan, trace)?;
+    Ok(Made {
+        text,
+        found: found?,
+    })
 }
 
 /// Reads a plan and a trace from any source, and writes the verdict as an audit does, and then its

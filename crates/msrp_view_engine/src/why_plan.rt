@@ -1,13 +1,10 @@
 //! Why a plan is refused, or what is odd in it, in words.
 ghost use Rattle.std.specs.Prelude.{◌≡◌, ◌⊎◌, ◌-◌};
-ghost use Rattle.msrp_plan.specs.Common.{ℕ, List, [], true, false, Ok, Some, Err, map, take, IfOk, IfErr, OnOk, source_failed, source_remaining, WroteSome};
-ghost use Rattle.csv.specs.Records.{fields_of};
-ghost use Rattle.msrp_text.specs.Reading.{csv_records, plan_of};
-ghost use Rattle.msrp_engine.specs.Answered.{Ends, IsDone, OrUnread};
-ghost use Rattle.msrp_faults.specs.Outcomes.{fault_of, is_sim_fault};
-ghost use Rattle.msrp_view_engine.specs.Answers.{IsOnPlan, WhyPlanAnswers, plan_found};
+ghost use Rattle.msrp_plan.specs.Common.{ℕ, List, true, false, Ok, Some, Err, map, take, IfOk, IfErr, OnOk, source_failed, source_remaining, WroteSome};
+ghost use Rattle.msrp_view_engine.specs.Common.{Ends, IsDone, OrUnread, answered, csv_records, fault_of, fields_of, is_sim_fault, plan_of};
+ghost use Rattle.msrp_view_engine.specs.Answers.{IsOnPlan, answer_to, plan_found};
 
-use crate::words::{Words, answer_to};
+use crate::words::{Outcome, Words, answer_to};
 use csv::ByteRecord;
 use msrp_advice::{AcceptedPlan, RefusedPlan, warnings_of};
 use msrp_engine::{CliFault, ending_of, write_answer};
@@ -76,13 +73,7 @@ fn refusal_text<'a>(
     Ok(format!(in alloc; "{words}")?.into_bytes())
 }
 
-fn words_on_refusal(
-    alloc: Global,
-    name: &str,
-    text: &[u8],
-    fault: PlanFault,
-    number: u32,
-) -> Result<Words, CliFault>
+fn refusal_words(alloc: Global, name: &str, text: &[u8], fault: PlanFault, number: u32) -> Outcome
     ensures found { IfOk result (λ words. words.found ≡ Err (fault_of (TextError.At fault number))) }
     ensures memory { IfErr result (λ fault. fault ≡ CliFault.Memory) }
 {
@@ -97,7 +88,7 @@ fn words_on_refusal(
     })
 }
 
-fn words_on_plan(alloc: Global, plan: &Plan) -> Result<Words, CliFault>
+fn plan_words(alloc: Global, plan: &Plan) -> Outcome
     ensures found { IfOk result (λ words. words.found ≡ Ok (Ok tt)) }
     ensures memory { IfErr result (λ fault. fault ≡ CliFault.Memory) }
 {
@@ -114,11 +105,7 @@ fn words_on_plan(alloc: Global, plan: &Plan) -> Result<Words, CliFault>
 }
 
 /// The words on a plan, and its refusal if it is refused, as [`why_plan_text`] writes them.
-pub fn why_of_plan<P: Read>(
-    alloc: Global,
-    name: &str,
-    plan: &mut Source<P>,
-) -> Result<Words, CliFault>
+pub fn why_of_plan<P: Read>(alloc: Global, name: &str, plan: &mut Source<P>) -> Outcome
     ensures found { (bytes : List ℕ) → source_remaining P.remaining plan.old ≡ Some bytes → IfOk result (λ words. words.found ≡ plan_found (plan_of (csv_records bytes))) }
     ensures plan { IfOk result (λ words. IsOnPlan words.found) }
     ensures faults { IfErr result (λ fault. (fault ≡ CliFault.Read) ⊎ (fault ≡ CliFault.Memory)) }
@@ -127,9 +114,9 @@ pub fn why_of_plan<P: Read>(
 {
     let bytes = bytes_of(alloc, plan)?;
     match read_plan(alloc, &mut Source::new(bytes.as_slice())) {
-        Ok(plan) => words_on_plan(alloc, &plan),
+        Ok(plan) => plan_words(alloc, &plan),
         Err(TextError::At { fault, number }) => {
-            words_on_refusal(alloc, name, bytes.as_slice(), fault, number)
+            refusal_words(alloc, name, bytes.as_slice(), fault, number)
         }
         Err(_) => Err(CliFault::Memory),
     }
@@ -147,7 +134,7 @@ pub fn why_plan_text<P: Read, W: Write>(
     plan: &mut Source<P>,
     out: &mut Sink<W>,
 ) -> Result<u8, CliFault>
-    ensures answer { (bytes : List ℕ) → source_remaining P.remaining plan.old ≡ Some bytes → OrUnread result (WhyPlanAnswers (plan_of (csv_records bytes)) out.new result) }
+    ensures answer { (bytes : List ℕ) → source_remaining P.remaining plan.old ≡ Some bytes → OrUnread result (result ≡ answered (answer_to (plan_found (plan_of (csv_records bytes)))) out.new) }
     ensures wrote { WroteSome W.contents out.old out.new }
     ensures read { result ≡ Err CliFault.Read → source_failed plan.new ≡ true }
     ensures memory { result ≡ Err CliFault.Memory → source_failed plan.new ≡ false }

@@ -12,6 +12,9 @@ pub struct Words {
     pub found: Result<Result<(), Fault>, CliFault>,
 }
 
+/// Words in memory, or why there are none.
+pub(crate) type Outcome = Result<Words, CliFault>;
+
 /// The status of a verdict, or the refusal.
 pub(crate) fn answer_to(found: Result<Result<(), Fault>, CliFault>) -> Result<u8, CliFault>
     ensures { result ≡ answer_to found }

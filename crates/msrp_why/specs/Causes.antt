@@ -1,17 +1,12 @@
 -- The cause of a fault: what the definitions give of the rows before it.
-use Rattle.msrp_plan.specs.Common.{ℕ, List, [], Some, None, ⊤, length, range_with_len, IsSomeAnd, Result, PlanModel, fault_in, false, true, is_in_turn}
-use Rattle.msrp_plan.specs.declared.faults.Fault.{Fault}
+use Rattle.msrp_plan.specs.Common.{ℕ, List, [], Some, None, length, range_with_len, IsSomeAnd, PlanModel, fault_in, false, true, is_in_turn}
 use Rattle.msrp_plan.specs.declared.rows.Row.{Row}
 use Rattle.std.specs.Prelude.{◌∷◌, ◌++◌, ◌/◌, ◌≡◌, filter, ◌*◌, ◌<◌}
-use Rattle.std.specs.declared.result.Result.TheVariants.{Err}
-use Rattle.msrp_audit.specs.Audits.{answer_of, has_turn}
+use Rattle.msrp_audit.specs.Audits.{has_turn}
 use Rattle.msrp_core.specs.CoreStates.{IsCoreState}
-use Rattle.msrp_plan.specs.Verdict.{missing}
 use Rattle.msrp_sim.specs.Cores.{IsNextRow}
 use Rattle.msrp_why.specs.Noted.{AreNoted}
 use Rattle.msrp_why.specs.declared.causes.Cause.{Cause}
-use Rattle.msrp_why.specs.declared.causes.Ground.{Ground}
-use Rattle.msrp_why.specs.declared.causes.Ground.TheVariants.{End, Row as AtRow}
 
 -- the cores that have their turns in the expected tick still to come
 abbrev pub cores_with_turn : PlanModel → List Row → List ℕ
@@ -40,9 +35,3 @@ pub record IsCauseIn (plan : PlanModel) (rows : List Row) (cause : Cause) : Type
   pub behind : List Row
   pub place : rows ≡ before ++ row ∷ behind
   pub is : IsCauseAfter plan before row cause
-
--- what a verdict on rows rests on: the cause of a fault at one of them; or, if none has a fault,
--- what is noted of all
-abbrev pub IsGroundOf : PlanModel → List Row → Result ⊤ Fault → Ground → Type 0
-IsGroundOf plan rows found (AtRow cause) = (found ≡ Err cause.fault) × IsCauseIn plan rows cause
-IsGroundOf plan rows found (End notes) = (found ≡ answer_of (missing plan rows)) × AreNoted plan rows notes

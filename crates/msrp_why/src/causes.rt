@@ -35,15 +35,6 @@ pub struct Cause {
     pub notes: Notes,
 }
 
-/// What a verdict rests on.
-#[derive(Debug, Drop)]
-pub enum Ground {
-    /// The cause of a fault at a row.
-    Row(Cause),
-    /// What was noted of all rows, if none has a fault: the run is legal, or rows are missing.
-    End(Notes),
-}
-
 fn push_if(found: &mut ArrayVec<u32, MOST_TURNS>, core: u32, has_turn: bool)
     ensures { length found.old.items < MOST_TURNS → found.new.items ≡ if has_turn then found.old.items ++ core ∷ [] else found.old.items }
 {

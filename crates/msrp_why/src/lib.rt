@@ -15,7 +15,7 @@ mod rows;
 mod telling;
 mod tried;
 
-pub use causes::{Cause, Ground, cause_of};
+pub use causes::{Cause, cause_of};
 pub use exercise::{ResourceCounts, TurnCounts};
 pub use misfits::RefusedRecord;
 pub use notes::{Notes, Numbered, ResourceNotes};

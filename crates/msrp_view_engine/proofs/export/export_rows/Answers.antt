@@ -43,16 +43,16 @@ returns-in-End-clause-found g c = λ told known.
     inr (inr (ap (λ x. Ok x) (rw c.auditor.ensures at c.end-found.ensures i.0 whole.0) ∙ sym (subst (λ (p : PlanModel). finding p told ≡ Ok (answer_of (verdict c.next_row.new.self.auditor.plan i.0))) c.requires.plan whole.2)))
 
 pub returns-in-Broken-clause-wrote : goal.returns-in-Broken-clause-wrote
-returns-in-Broken-clause-wrote g c = some-more g.W.Write.contents _ _ _ c.loop-exporter.invariant.2 c.fault.ensures
+returns-in-Broken-clause-wrote g c = some-more g.W.Write.contents _ _ _ c.loop-exporter.invariant.2 c.end.ensures
 
 pub returns-in-End-clause-wrote : goal.returns-in-End-clause-wrote
-returns-in-End-clause-wrote g c = some-more g.W.Write.contents _ _ _ c.loop-exporter.invariant.2 c.write_end.ensures
+returns-in-End-clause-wrote g c = some-more g.W.Write.contents _ _ _ c.loop-exporter.invariant.2 c.end.ensures
 
 pub returns-in_err-row-in-Legal-clause-wrote : goal.returns-in_err-row-in-Legal-clause-wrote
 returns-in_err-row-in-Legal-clause-wrote g c = some-more g.W.Write.contents _ _ _ c.loop-exporter.invariant.2 c.row.ensures.wrote
 
-pub returns-in_err-fault-in-Broken-clause-wrote : goal.returns-in_err-fault-in-Broken-clause-wrote
-returns-in_err-fault-in-Broken-clause-wrote g c = some-more g.W.Write.contents _ _ _ c.loop-exporter.invariant.2 c.fault.ensures
+pub returns-in_err-end-in-Broken-clause-wrote : goal.returns-in_err-end-in-Broken-clause-wrote
+returns-in_err-end-in-Broken-clause-wrote g c = some-more g.W.Write.contents _ _ _ c.loop-exporter.invariant.2 c.end.ensures
 
-pub returns-in_err-write_end-in-End-clause-wrote : goal.returns-in_err-write_end-in-End-clause-wrote
-returns-in_err-write_end-in-End-clause-wrote g c = some-more g.W.Write.contents _ _ _ c.loop-exporter.invariant.2 c.write_end.ensures
+pub returns-in_err-end-in-End-clause-wrote : goal.returns-in_err-end-in-End-clause-wrote
+returns-in_err-end-in-End-clause-wrote g c = some-more g.W.Write.contents _ _ _ c.loop-exporter.invariant.2 c.end.ensures

@@ -7,4 +7,4 @@ pub returns-in-Ok-clause-found : goal.returns-in-Ok-clause-found
 returns-in-Ok-clause-found g c = λ bytes known.
     let all : c.in_ok-bytes.bytes.items ≡ bytes = c.in_ok-bytes.ensures.bytes bytes known in
     let is : plan_of (csv_records bytes) ≡ Ok c.in-Ok.plan = search rules in
-    subst (λ read. IfOk c.words_on_plan.result (λ words. words.found ≡ plan_found read)) (sym is) c.words_on_plan.ensures.found
+    subst (λ read. IfOk c.plan_words.result (λ words. words.found ≡ plan_found read)) (sym is) c.plan_words.ensures.found
