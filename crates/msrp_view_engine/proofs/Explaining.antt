@@ -42,7 +42,7 @@ pub end-found : (plan : PlanModel) (told : Told) (rows : List Row) (left after :
 end-found plan told rows left after result found notes is next e good answer noted =
     let whole = read-whole told rows left after result is next e in
     let short : verdict plan rows ≡ missing plan rows = ap (λ o. option_or o (missing plan rows)) good in
-    (judging.verdict-found plan told rows left after result is next e good ∙ ap (λ x. Ok x) (sym answer), (answer ∙ (ap answer_of short ∙ ap (λ xs. answer_of (missing plan xs)) (sym whole.0)), subst (λ xs. AreNoted plan xs notes) (sym whole.0) noted))
+    (judging.verdict-found plan told rows left after result is next e good ∙ ap (λ x. Ok x) (sym answer), answer ∙ (ap answer_of short ∙ ap (λ xs. answer_of (missing plan xs)) (sym whole.0)), subst (λ xs. AreNoted plan xs notes) (sym whole.0) noted)
 
 -- ---- the words in memory
 abbrev pub IsExplained : PlanModel → Told → Result Words CliFault → Type 0

@@ -228,11 +228,12 @@ pub fn why_of_texts<P: Read, T: Read>(
     ensures faults { IfErr result (λ fault. is_audit_fault fault ≡ true) }
     ensures unwritten { ¬ (result ≡ Err CliFault.Write) }
 {
-    let Words { text, found } = explain(alloc, plan, trace)?;
-    Ok(Made {
-        text,
-        found: found?,
-    })
+    let words = explain(alloc, plan, trace)?;
+    let text = words.text;
+    match words.found {
+        Ok(found) => Ok(Made { text, found }),
+        Err(fault) => Err(fault),
+    }
 }
 
 /// Reads a plan and a trace from any source, and writes the verdict as an audit does, and then its

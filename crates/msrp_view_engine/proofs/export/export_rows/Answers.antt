@@ -46,7 +46,7 @@ pub returns-in-Broken-clause-wrote : goal.returns-in-Broken-clause-wrote
 returns-in-Broken-clause-wrote g c = some-more g.W.Write.contents _ _ _ c.loop-exporter.invariant.2 c.end.ensures
 
 pub returns-in-End-clause-wrote : goal.returns-in-End-clause-wrote
-returns-in-End-clause-wrote g c = some-more g.W.Write.contents _ _ _ c.loop-exporter.invariant.2 c.end.ensures
+returns-in-End-clause-wrote g c = some-more g.W.Write.contents _ _ _ c.loop-exporter.invariant.2 c.end-in-End.ensures
 
 pub returns-in_err-row-in-Legal-clause-wrote : goal.returns-in_err-row-in-Legal-clause-wrote
 returns-in_err-row-in-Legal-clause-wrote g c = some-more g.W.Write.contents _ _ _ c.loop-exporter.invariant.2 c.row.ensures.wrote
@@ -55,4 +55,4 @@ pub returns-in_err-end-in-Broken-clause-wrote : goal.returns-in_err-end-in-Broke
 returns-in_err-end-in-Broken-clause-wrote g c = some-more g.W.Write.contents _ _ _ c.loop-exporter.invariant.2 c.end.ensures
 
 pub returns-in_err-end-in-End-clause-wrote : goal.returns-in_err-end-in-End-clause-wrote
-returns-in_err-end-in-End-clause-wrote g c = some-more g.W.Write.contents _ _ _ c.loop-exporter.invariant.2 c.end.ensures
+returns-in_err-end-in-End-clause-wrote g c = some-more g.W.Write.contents _ _ _ c.loop-exporter.invariant.2 c.end-in-End.ensures

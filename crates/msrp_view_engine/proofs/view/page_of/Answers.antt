@@ -7,7 +7,7 @@ use Rattle.msrp_view_engine.proofs.view.page_of.Goals as goal
 pub returns-in_err-trace-clause-found : goal.returns-in_err-trace-clause-found
 returns-in_err-trace-clause-found g c = λ bytes known.
     let here = c.new.ensures.remaining ∙ ap (λ xs. Some xs) (c.as_slice.ensures.value ∙ c.in_ok-bytes.ensures.bytes bytes known) in
-    let gives : c.from_residual.result ≡ Err c.in_err-trace.field-0.0 = search rules in
+    let gives : c.from_residual-in_err-trace.result ≡ Err c.in_err-trace.field-0.0 = search rules in
     err-unread _ _ _ _ (c.in_err-trace.ensures.rows bytes here) gives (λ rows. ap found_in gives ∙ ap (verdict_on c.args.plan.now) rows)
 
 pub returns-clause-found : goal.returns-clause-found

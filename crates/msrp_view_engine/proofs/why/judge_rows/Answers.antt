@@ -58,8 +58,8 @@ returns-in-End-clause-found g c = λ told known.
     let is = c.in_ok-row.was ∙ ap (λ x. Ok x) c.in-End.is in
     let good = subst (λ (p : PlanModel). fault_in p i.0 ≡ None) c.requires.plan (came-good g.T.Read.remaining c.args.rows.now c.loop-notes.rows i.0 i.1) in
     let judged = subst (λ r. IsJudged c.loop-notes.rows.auditor.plan i.0 r c.next_with_state.new.self) is (e.judged i.0 i.1.fed i.1.fault) in
-    let answer = rw c.auditor.ensures at c.end-verdict.ensures i.0 judged.0 in
-    end-found c.args.plan.now told i.0 _ _ (row_told c.next_with_state.result) c.end-verdict.result c.loop-notes.notes (i.1.read told known) e.gives (ap row_told is) good
+    let answer = rw c.auditor.ensures at c.end.ensures i.0 judged.0 in
+    end-found c.args.plan.now told i.0 _ _ (row_told c.next_with_state.result) c.end.result c.loop-notes.notes (i.1.read told known) e.gives (ap row_told is) good
     (answer ∙ ap (λ (p : PlanModel). answer_of (verdict p i.0)) (e.plan ∙ plan)) i.2
 
 -- ---- a legal row
