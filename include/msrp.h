@@ -46,7 +46,8 @@ enum msrp_status {
 };
 
 /* What was found. A field that doesn't apply is 0. With MSRP_ROOM the fields are those that a
- * longer buffer would give. */
+ * longer buffer would give. The calls on a kernel's log use rule, plan_code, trace_code and number:
+ * see there. */
 struct msrp_found {
     uint32_t row;        /* the first row that violates a rule, counted from 1 */
     uint32_t rule;       /* the number after A of the lowest rule that it violates, 1 to 7 */
@@ -137,14 +138,16 @@ uint32_t msrp_why_rows(const uint8_t *plan, size_t plan_len, const struct msrp_r
 uint32_t msrp_task_number(const uint8_t *plan, size_t plan_len, const uint8_t *name, size_t name_len, uint32_t *number, struct msrp_found *found);
 uint32_t msrp_resource_number(const uint8_t *plan, size_t plan_len, const uint8_t *name, size_t name_len, uint32_t *number, struct msrp_found *found);
 
-/* A handle is one pointer, which only these calls follow: to an auditor, a run or a core of a run.
+/* A handle is one pointer, which only these calls follow: to an auditor of rows or of a log, a run,
+ * or a core of a run.
  *
  * - It is {NULL} before the call that makes its contents, and after the call that gives them back.
  * - One call at a time uses it. It may go to another thread if a lock, the start or join of a
  *   thread, or a sequentially consistent atomic orders the calls. A copy may only replace the
  *   handle.
  * - Calls with a null handle, or one of another kind, answer MSRP_USAGE and change nothing.
- * - The plan stays in memory until the process ends, also after the handle is freed. */
+ * - The plan, or the system of a log, stays in memory until the process ends, also after the handle
+ *   is freed. */
 
 /* ---- An auditor that is fed row by row. */
 struct msrp_auditor {
@@ -181,6 +184,63 @@ uint32_t msrp_auditor_again(struct msrp_auditor *auditor);
 
 /* Gives the auditor's memory back, but for the plan. A null handle is left as it is. */
 void msrp_auditor_free(struct msrp_auditor *auditor);
+
+/* ---- An auditor of a kernel's log, which is fed event by event. docs/LOG.md has the events, the
+ * rules and the text of a system.
+ *
+ * A fault isn't certain yet if the cores number their records: see docs/C.md. */
+struct msrp_log {
+    void *at;
+};
+
+/* How exact the times of a log are, in ns, and how many jobs may be released and not ended. */
+struct msrp_tolerances {
+    uint32_t operation; /* how long an operation on a resource takes */
+    uint32_t slack;     /* how long the kernel may take to react */
+    uint32_t skew;      /* by how much the clocks of two cores may differ */
+    uint32_t backlog;   /* the most jobs that may be released and not ended; msrp_log takes 4096 */
+};
+
+/* The numbers up to MSRP_LOG_LOST are also those of enum msrp_event_kind in msrp_events.h. */
+enum msrp_log_kind { MSRP_LOG_BOOT = 0, MSRP_LOG_RELEASE = 1, MSRP_LOG_SWITCH = 2, MSRP_LOG_LOCK = 3, MSRP_LOG_UNLOCK = 4, MSRP_LOG_REQUEST = 5, MSRP_LOG_ACQUIRE = 6, MSRP_LOG_FREED = 7, MSRP_LOG_END = 8, MSRP_LOG_STOP = 9, MSRP_LOG_LOST = 10, MSRP_LOG_POLL = 11 };
+
+#define MSRP_NO_SEQ UINT64_MAX
+
+/* An event. Tasks and resources are numbered from 0 in the order of their declaration. A field that
+ * an event of the kind doesn't have isn't read. */
+struct msrp_log_event {
+    uint64_t ns;        /* the time by the core's clock */
+    uint64_t deadline;  /* of a release: the absolute deadline in ns */
+    uint64_t seq;       /* the number among the core's records, or MSRP_NO_SEQ */
+    uint32_t core;
+    uint32_t kind;      /* enum msrp_log_kind */
+    uint32_t task, job; /* of all kinds but boot, stop and lost; both MSRP_NONE for a switch to none */
+    uint32_t resource;  /* from lock to freed, and of a poll */
+};
+
+/* What a log lacks. */
+enum msrp_missing { MSRP_LACKS_CORE = 1, MSRP_LACKS_START = 2, MSRP_LACKS_RESTART = 3, MSRP_LACKS_RECORDS = 4, MSRP_LACKS_CLOCK = 5, MSRP_LACKS_RELEASE = 6, MSRP_LACKS_REQUEST = 7, MSRP_LACKS_ROOM = 8 };
+
+/* Why a system is refused, in found->plan_code; found->number is the record, counted from 1. */
+enum msrp_system_refusal { MSRP_SYSTEM_HEAD = 1, MSRP_SYSTEM_RECORD = 2, MSRP_SYSTEM_NUMBER = 3, MSRP_SYSTEM_NAME = 4, MSRP_SYSTEM_TWICE = 5, MSRP_SYSTEM_CORE = 6, MSRP_SYSTEM_RESOURCE = 7, MSRP_SYSTEM_UNMATCHED = 8, MSRP_SYSTEM_LIMIT = 9 };
+
+/* Makes an auditor of the logs of a system, and takes all memory that feed and end need. If the
+ * answer isn't MSRP_GOOD the handle stays null. If the handle isn't null the answer is MSRP_USAGE,
+ * and the handle stays as it is. */
+uint32_t msrp_log_new(const uint8_t *system, size_t system_len, const struct msrp_tolerances *tolerances, struct msrp_log *log, struct msrp_found *found);
+
+/* The next event, and what the events so far show first. MSRP_GOOD: they are the start of a legal
+ * log. MSRP_FAULT: the event violates a rule; found->rule is its number after E, 1 to 10.
+ * MSRP_REFUSED: the log lacks something; found->trace_code is enum msrp_missing. After a fault, and
+ * after something that is missing, the answer stays. MSRP_USAGE if the kind has no such number, or
+ * if the event lacks a field of its kind: then nothing changes. */
+uint32_t msrp_log_feed(struct msrp_log *log, const struct msrp_log_event *event, struct msrp_found *found);
+
+/* What the events so far show first, as msrp_log_feed answers it. Events may be fed after it. */
+uint32_t msrp_log_end(struct msrp_log *log, struct msrp_found *found);
+
+/* Gives the auditor's memory back, but for the system. A null handle is left as it is. */
+void msrp_log_free(struct msrp_log *log);
 
 /* ---- A run of a plan on the caller's own threads, with their priorities, processors and stacks.
  *

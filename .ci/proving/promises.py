@@ -13,7 +13,7 @@ FIELDS = re.compile(r"\bfields? ((?:`\w+`(?:, | and )?)+)")
 FIELD = re.compile(r"^  (?:pub )?(\w+) :", re.M)
 DEFINED = re.compile(r"^(?:unfoldable |abbrev |pub |record |data )*([^\s:(){}]+)(?= ?[:({])", re.M)
 TYPE = re.compile(r"^ *pub(?:\([\w: ]+\))? (?:struct|enum|trait) (\w+)", re.M)
-ENGINE = "_engine"
+ENGINES = "_engine", "msrp_event_text"
 UNSTATED = (None, "Model", "Drop", "Display", "Debug")  # traits whose functions have no clauses of ours
 
 
@@ -192,7 +192,7 @@ def of_readme(names):
             words = TOKEN.findall(text)
             commands = [f"{word}_text" for word in words if f"{word}_text" in names.calls.named]
             called = {it for own in names.all if own.crate in words for it in names.calls.of(own)}
-            functions = sorted(it.name for it in called if it.crate.endswith(ENGINE))
+            functions = sorted(it.name for it in called if it.crate.endswith(ENGINES))
             yield text, ", ".join(f"`{name}`" for name in [*commands, *functions])
 
 
@@ -200,7 +200,7 @@ def promises(names):
     """All promises, in the order of their documents."""
     last = None
     page = SECTION.split(text_of(f"{TOP}/docs/PROVED.md"))
-    parts = [("README: what is proved", [it for it in LINES if it.endswith(ENGINE)], list(of_readme(names)))]
+    parts = [("README: what is proved", [it for it in LINES if it.endswith(ENGINES)], list(of_readme(names)))]
     for title, text in zip(page[1::2], page[2::2]):
         crates = [it for token in TOKEN.findall(title) for it in token.split("::") if it in LINES]
         parts.append((title, crates, [row for row in ROW.findall(text) if row[0] not in ("What", "---")]))

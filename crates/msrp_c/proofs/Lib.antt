@@ -6,3 +6,4 @@ mod Streaming
 mod Handing
 mod Turning
 mod Reasons
+mod LogOpening

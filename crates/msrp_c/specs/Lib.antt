@@ -12,3 +12,5 @@ pub mod Hosting
 pub mod Loading
 pub mod Feeding
 pub mod Names
+pub mod LogEvents
+pub mod Logs

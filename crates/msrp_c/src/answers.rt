@@ -35,6 +35,12 @@ pub(crate) const NOTHING: MsrpFound = MsrpFound {
 /// The call has done its task.
 pub(crate) const GOOD: u32 = 0;
 
+/// A rule is violated.
+pub(crate) const FAULT: u32 = 1;
+
+/// What is judged is refused.
+pub(crate) const REFUSED: u32 = 2;
+
 /// The call was wrong.
 pub(crate) const USAGE: u32 = 3;
 

@@ -1,7 +1,8 @@
-//! What a handle has between two calls: an auditor, a run, or a core of a run.
+//! What a handle has between two calls: an auditor of rows or of a log, a run, or a core of a run.
 
 use crate::held::FedAuditor;
 use crate::open_run::OpenRun;
+use msrp_event_audit::LogAuditor;
 use msrp_hosted::{HostedCore, SettledRun};
 
 /// What a handle points to.
@@ -10,6 +11,8 @@ use msrp_hosted::{HostedCore, SettledRun};
 pub enum Content {
     /// An auditor that is fed row by row.
     Auditor(FedAuditor<'static>),
+    /// An auditor of a kernel's log that is fed event by event.
+    Log(LogAuditor<'static>),
     /// A run whose cores are handed out and joined.
     Open(OpenRun),
     /// A run whose cores were all joined.

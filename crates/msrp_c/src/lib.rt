@@ -15,6 +15,8 @@ mod feeding;
 mod handle;
 mod held;
 mod loading;
+mod log_events;
+mod logs;
 mod loose;
 mod names;
 mod numbers;
@@ -35,6 +37,8 @@ pub use auditor::{
 pub use audits::{msrp_audit, msrp_audit_rows, msrp_report};
 pub use cores::{msrp_core_arrive, msrp_core_free, msrp_core_turn};
 pub use handle::MsrpHandle;
+pub use log_events::MsrpLogEvent;
+pub use logs::{MsrpTolerances, msrp_log_end, msrp_log_feed, msrp_log_free, msrp_log_new};
 pub use names::{msrp_resource_number, msrp_task_number};
 pub use pictures::msrp_view;
 pub use plans::{msrp_check, msrp_plan_text, msrp_sim};

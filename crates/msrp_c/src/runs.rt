@@ -69,7 +69,7 @@ fn next_core(content: &mut Content) -> Result<Box<Content>, u32>
     match content {
         Content::Open(run) => run.next_core(),
         Content::Settled(_) => Err(DONE),
-        Content::Auditor(_) | Content::Core(_) | Content::Spare => Err(USAGE),
+        Content::Auditor(_) | Content::Log(_) | Content::Core(_) | Content::Spare => Err(USAGE),
     }
 }
 
@@ -110,7 +110,11 @@ fn join(content: &mut Content, core: HostedCore<'static>) -> Result<(), HostedCo
 {
     match content {
         Content::Open(open) => open.join(core),
-        Content::Settled(_) | Content::Auditor(_) | Content::Core(_) | Content::Spare => Err(core),
+        Content::Settled(_)
+        | Content::Auditor(_)
+        | Content::Log(_)
+        | Content::Core(_)
+        | Content::Spare => Err(core),
     }
 }
 

@@ -27,7 +27,8 @@ pub struct MsrpRow {
 /// The number of a missing part.
 pub(crate) const NONE: u32 = 4_294_967_295;
 
-fn numbered(number: u32) -> Option<u32>
+/// A number, or nothing for a missing part.
+pub(crate) fn numbered(number: u32) -> Option<u32>
     ensures { result ≡ numbered number }
 {
     if number == NONE { None } else { Some(number) }
@@ -50,8 +51,8 @@ fn kind_numbered(number: u32) -> Option<Kind>
     }
 }
 
-// The job of a task and a number, if both are there or neither.
-fn job_numbered(task: Option<u32>, k: Option<u32>) -> Option<Option<JobId>>
+/// The job of a task and a number, if both are there or neither.
+pub(crate) fn job_numbered(task: Option<u32>, k: Option<u32>) -> Option<Option<JobId>>
     ensures { result ≡ job_numbered task k }
 {
     match (task, k) {

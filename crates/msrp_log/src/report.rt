@@ -300,8 +300,9 @@ impl Watch for Report<'_> {
 impl fmt::Display for Report<'_> {
     fn fmt<W: Write>(&self, f: &mut Formatter<W>) -> fmt::Result {
         writeln!(f, "msrp-log-report,1")?;
-        for (t, task) in self.tasks.iter().enumerate() {
-            let name = self.system.task_name(TaskId(t as u32));
+        for t in 0..self.system.tasks() {
+            let task = self.tasks.get(t as usize).copied().unwrap_or_default();
+            let name = self.system.task_name(TaskId(t));
             write!(
                 f,
                 "task,{name},{},{},{},",
@@ -309,8 +310,9 @@ impl fmt::Display for Report<'_> {
             )?;
             writeln!(f, "{},{},{}", task.response, task.spin, task.blocked)?;
         }
-        for (r, res) in self.resources.iter().enumerate() {
-            let name = self.system.res_name(ResId(r as u32));
+        for r in 0..self.system.resources() {
+            let res = self.resources.get(r as usize).copied().unwrap_or_default();
+            let name = self.system.res_name(ResId(r));
             writeln!(
                 f,
                 "resource,{name},{},{},{}",

@@ -40,7 +40,34 @@ pub(crate) struct Numbers {
     pub(crate) ahead: u32,
 }
 
-/// `struct msrp_auditor`, `struct msrp_run` or `struct msrp_core`. It is never copied.
+/// What an event has in place of the number of a record.
+pub(crate) const NO_SEQ: u64 = u64::MAX;
+
+/// `struct msrp_log_event`.
+#[repr(C)]
+#[derive(Clone, Copy, Debug)]
+pub(crate) struct LogNumbers {
+    pub(crate) ns: u64,
+    pub(crate) deadline: u64,
+    pub(crate) seq: u64,
+    pub(crate) core: u32,
+    pub(crate) kind: u32,
+    pub(crate) task: u32,
+    pub(crate) job: u32,
+    pub(crate) resource: u32,
+}
+
+/// `struct msrp_tolerances`.
+#[repr(C)]
+#[derive(Clone, Copy, Debug)]
+pub(crate) struct Tolerated {
+    pub(crate) operation: u32,
+    pub(crate) slack: u32,
+    pub(crate) skew: u32,
+    pub(crate) backlog: u32,
+}
+
+/// `struct msrp_auditor`, `struct msrp_log`, `struct msrp_run` or `struct msrp_core`. It is never copied.
 #[repr(C)]
 #[derive(Debug)]
 pub(crate) struct Handle(*mut c_void);
@@ -81,6 +108,10 @@ extern "C" {
     pub(crate) fn msrp_auditor_why(auditor: &mut Handle, text: Buffer, text_len: usize, needed: &mut usize, found: &mut Found) -> u32;
     pub(crate) fn msrp_auditor_again(auditor: &mut Handle) -> u32;
     pub(crate) fn msrp_auditor_free(auditor: &mut Handle);
+    pub(crate) fn msrp_log_new(system: Text, system_len: usize, tolerances: &Tolerated, log: &mut Handle, found: &mut Found) -> u32;
+    pub(crate) fn msrp_log_feed(log: &mut Handle, event: &LogNumbers, found: &mut Found) -> u32;
+    pub(crate) fn msrp_log_end(log: &mut Handle, found: &mut Found) -> u32;
+    pub(crate) fn msrp_log_free(log: &mut Handle);
     pub(crate) fn msrp_run_new(plan: Text, plan_len: usize, run: &mut Handle, found: &mut Found) -> u32;
     pub(crate) fn msrp_run_core(run: &mut Handle, core: &mut Handle) -> u32;
     pub(crate) fn msrp_core_turn(core: &mut Handle, row: &mut Numbers, place: &mut u32) -> u32;

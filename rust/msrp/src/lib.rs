@@ -28,7 +28,8 @@
 //!   a thread 2 MiB, unless you set another size.
 //! - There is no call from a signal handler, and none in the forked child of a process with
 //!   threads.
-//! - A plan stays in memory until the process ends if an [`Auditor`] or a [`Run`] was made of it.
+//! - A plan stays in memory until the process ends if an [`Auditor`] or a [`Run`] was made of it,
+//!   and so does the system of a [`LogAuditor`].
 #![deny(missing_docs, clippy::undocumented_unsafe_blocks)]
 #![deny(clippy::expect_used, clippy::indexing_slicing, clippy::panic, clippy::unwrap_used)]
 
@@ -39,6 +40,7 @@ mod auditor;
 mod error;
 mod ffi;
 mod judging;
+mod log;
 mod plan;
 mod reports;
 mod row;
@@ -50,6 +52,7 @@ pub use error::Error;
 pub use judging::{
     audit, audit_rows, simulate, version, view, why, why_plan, why_rows, Extent, Order, Style, TextVersion,
 };
+pub use log::{LogAction, LogAuditor, LogError, LogEvent, Missing, Tolerances};
 pub use plan::Plan;
 pub use reports::{check, report, Levels, TaskReport};
 pub use row::{Job, Row, Step};
