@@ -1,6 +1,6 @@
 -- What is found in rows that are judged as they are read: the cause of a fault, or the refusal
 -- after them, and the words on it.
-use Rattle.std.proofs.Common.{◌≡◌, ◌⊎◌, ◌+◌, ◌-◌, ◌++◌, ◌∷◌, ◌∙◌}
+use Rattle.std.proofs.Common.{◌≡◌, ◌⊎◌, ◌+◌, ◌++◌, ◌∷◌, ◌∙◌}
 use Rattle.msrp_plan.proofs.Common.{[], ℕ, true, List, Option, Some, None, Result, Ok, Err, IfOk, IfErr, ap, sym, subst, inl, inr, append_assoc, same_Some, ⊤, IfSome, option_or, PlanModel, fault_in, missing, verdict}
 use Rattle.msrp_plan.specs.Common.{IsOkAnd}
 use Rattle.msrp_view_engine.proofs.Common.{Answers, AreNoted, AreOnTrace, BeginsIn, BeginsRow, CliFault, Fault, IsCauseAfter, IsExplainedOf, IsJudged, IsReadTo, NoMemory, Opens, OrUnread, ReadFault, Row, Sink, TextError, Told, TraceError, WhyAnswers, WritesWords, answer_of, fault_of, finding, finding_of, is_record_fault, read-refused, read-whole, rows_of, trace_fault_of, unopened}

@@ -1,7 +1,7 @@
 -- What is found in texts, and what the engines answer.
 use Rattle.std.specs.Prelude.{◌≡◌, ◌⊎◌, ◌+◌, ◌++◌}
 use Rattle.msrp_plan.specs.Common.{ℕ, Bool, false, true, List, Option, Some, None, Ok, Err, IfErr, IfOk, IfSome, IsOkAnd, ⊤, Result, PlanModel, Wrote, verdict, verdict_text}
-use Rattle.msrp_view_engine.specs.Common.{AreNoted, BeginsIn, CliFault, Fault, IsCauseIn, Made, Row, Sink, TextError, Told, TraceError, Window, answer_of, answered, fault_of, finding, finding_of, found_in, is_audit_fault, is_plan_code, is_trace_code, missing, rows_of, trace_fault_of, verdict_status, window_of}
+use Rattle.msrp_view_engine.specs.Common.{AreNoted, BeginsIn, CliFault, Fault, IsCauseIn, Made, Row, Sink, TextError, Told, TraceError, Window, answer_of, answered, fault_of, finding, finding_of, found_in, is_plan_code, is_trace_code, missing, rows_of, trace_fault_of, verdict_status, is_view_fault, window_of}
 use Rattle.msrp_trace.specs.declared.faults.TraceError.TheVariants as trace
 use Rattle.msrp_faults.specs.declared.faults.CliFault.TheVariants as cli
 use Rattle.msrp_view_engine.specs.declared.view.Drawing.{Drawing}
@@ -62,10 +62,10 @@ abbrev pub WritesDrawing : {W : Type 0} → Result (Result ⊤ Fault) CliFault �
 WritesDrawing (Ok verdict) old new result = result ≡ answered (answer_to (Ok verdict)) new
 WritesDrawing (Err fault) old new result = Refuses fault old new result
 
--- the faults of a drawing: those of an audit, and wrong usage for a picture
+-- the faults of a drawing: a page has no window, so no wrong usage
 abbrev pub is_drawing_fault : CliFault → Drawing → Bool
-is_drawing_fault cli.Usage (Picture asked) = true
-is_drawing_fault fault drawing = is_audit_fault fault
+is_drawing_fault cli.Usage (Page length) = false
+is_drawing_fault fault drawing = is_view_fault fault
 
 -- ---- exports
 -- the status of a verdict if the sink took all, and a refusal in any case

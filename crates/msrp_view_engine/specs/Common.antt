@@ -7,7 +7,7 @@ pub use Rattle.msrp_engine.specs.Findings.{finding, finding_of}
 pub use Rattle.msrp_engine.specs.Judging.{rows_left}
 pub use Rattle.msrp_engine.specs.MadeTexts.{found_in}
 pub use Rattle.msrp_engine.specs.declared.made.Made.{Made}
-pub use Rattle.msrp_faults.specs.Outcomes.{answered, fault_of, is_audit_fault, is_plan_code, is_plan_fault, is_sim_fault, is_trace_code, is_trace_fault, trace_fault_of}
+pub use Rattle.msrp_faults.specs.Outcomes.{answered, fault_of, is_audit_fault, is_plan_code, is_plan_fault, is_sim_fault, is_trace_code, is_trace_fault, is_view_fault, trace_fault_of}
 pub use Rattle.msrp_faults.specs.declared.faults.CliFault.{CliFault}
 pub use Rattle.msrp_picture.specs.Rows.{window_of}
 pub use Rattle.msrp_picture.specs.declared.windows.Window.{Window}
