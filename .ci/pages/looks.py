@@ -147,6 +147,12 @@ def joined(browser, page, path, facts):
     (path.parent / "apart.html").write_text(page(data))
     browser.open(path.parent / "apart.html")
     judge({each[first], each[second], data["tasks"][other][0]} <= set(browser.value(NAMES)), f"not joined: {browser.value(NAMES)}")
+    for place, what in ((1, "cores"), (2, "deadlines")):
+        data = json.loads(json.dumps(facts.data))
+        data["tasks"][second][place] -= 1
+        (path.parent / "apart.html").write_text(page(data))
+        browser.open(path.parent / "apart.html")
+        judge({each[first], each[second]} <= set(browser.value(NAMES)), f"not joined, of two {what}: {browser.value(NAMES)}")
 
 
 # ---- colours, small screens, paper

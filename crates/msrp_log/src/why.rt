@@ -157,11 +157,9 @@ impl<'a> Why<'a> {
     }
 
     // When at the latest the core should have run the chosen job.
-    fn limit(&self, core: CoreId, log: CoreLog) -> u64 {
+    fn limit(&self, log: CoreLog) -> u64 {
         let allowed = self.auditor.tolerances();
-        let own = core.0 == self.shown.event.core.0;
-        let skew = if own { 0 } else { allowed.skew };
-        let slack = u64::from(allowed.slack) + u64::from(skew);
+        let slack = u64::from(allowed.slack) + u64::from(allowed.skew);
         let operation = u64::from(allowed.operation);
         let acted = log.acted.map_or(0, |time| time.saturating_add(operation));
         log.since.unwrap_or(0).max(acted).saturating_add(slack)
@@ -172,7 +170,7 @@ impl<'a> Why<'a> {
         let limit = self
             .auditor
             .core(core)
-            .map_or(0, |log| self.limit(core, log));
+            .map_or(0, |log| self.limit(log));
         writeln!(
             f,
             "core {} switches to {} by {limit}",
