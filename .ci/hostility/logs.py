@@ -87,12 +87,20 @@ def words(tolerances):
     return [word for name in NAMES for word in ("--op" if name == "operation" else f"--{name}", str(tolerances[name]))]
 
 
-def is_verdict(line, shown, is_numbered):
-    """Whether the program's line is the verdict where a record, counted from 1, shows this rule or lack first. The program also says whether
-    a fault is certain, and where the numbers show that records were lost after it, it says so in its place."""
+def is_lack(records, number):
+    """Whether this record may show that earlier ones were lost: by its number, or as a lost record, or as the first one of its core but no boot.
+    The head of the log is record 1."""
+    record, before = records[number - 2], records[:number - 2]
+    is_first = all(earlier[1] != record[1] for earlier in before)
+    return bool(record[7]) or record[2] == "lost" or is_first and record[2] != "boot"
+
+
+def is_verdict(line, shown, records):
+    """Whether the program's line is the verdict where a record shows this rule or lack first. The program also says whether
+    a fault is certain, and where a later record shows that some were lost, it says so in its place."""
     if shown is None:
         return line == "good"
     what, record, code = line.split(",")
     if code.startswith("E") or (int(record), code) == shown:
         return (int(record), code) == shown and (what == "incomplete") == (code in MISSING)
-    return is_numbered and code == "records" and shown[1].startswith("E") and shown[0] < int(record)
+    return code == "records" and shown[1].startswith("E") and shown[0] < int(record) and is_lack(records, int(record))
