@@ -174,9 +174,8 @@ impl<'a> Auditor<'a> {
     }
 
     /// The row that is due of a core that may have its turn now, with its ahead. Fed next, that row
-    /// has no fault, and of this core
-    /// no other has none, but for one that leaves the ahead out. It is [`Memory`] only where that
-    /// was refused.
+    /// has no fault, and every other row of this core has one, except the same row without its
+    /// ahead. It is [`Memory`] only if memory was refused.
     pub fn due_row(&self, alloc: Global, core: CoreId) -> Result<Row, Memory>
         requires { IsDueInAudit self.now core.0 }
         ensures { IfOk result (λ due. (rows : List TraceRow) → HasFed self.now rows → IsDueRow self.now.plan rows core.0 due) }
