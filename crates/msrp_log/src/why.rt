@@ -167,10 +167,7 @@ impl<'a> Why<'a> {
 
     fn write_overdue<W: Write>(&self, f: &mut Formatter<W>) -> fmt::Result {
         let core = self.core();
-        let limit = self
-            .auditor
-            .core(core)
-            .map_or(0, |log| self.limit(log));
+        let limit = self.auditor.core(core).map_or(0, |log| self.limit(log));
         writeln!(
             f,
             "core {} switches to {} by {limit}",
