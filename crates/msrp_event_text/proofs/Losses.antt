@@ -80,7 +80,7 @@ read_all system t n events cores (r ∷ rs) h none = by_event (event_of system r
     by_finding (Some (finding.Incomplete what)) shows h rest = absurd (cc)
     by_finding (Some (finding.Fault rule)) shows h rest = absurd (never_good system rule n (n + 1) (told cores e) rs h)
 
--- ---- what is awaited of a core after so many records of it
+-- ---- what is awaited of a core after some of its records
 abbrev status : ℕ → ℕ → Awaited
 status f zero = awaited.Boot
 status f (suc k) = awaited.After (f + k)

@@ -20,7 +20,7 @@ fn is_long_number(text: &[u8]) -> bool
     1 <= text.len() && text.len() <= 19 && (text.len() == 1 || text[0] != b'0') && are_digits(text)
 }
 
-// The number that a text stands for: `0`, or one to 19 digits of which the first is not 0.
+// The number that a text writes: `0`, or one to 19 digits, the first of them not 0.
 fn long_number_of(text: &[u8]) -> Option<u64>
     ensures { result ≡ long_number_of text.now }
 {

@@ -263,7 +263,7 @@ fn at(untaken: Untaken, number: u64) -> SystemError {
     }
 }
 
-// The system of all records, of which so many were read.
+// The system of all records, after this many were read.
 fn system_at_end(alloc: Global, draft: Draft, number: u64) -> Result<System, SystemError> {
     if draft.cores == 0 {
         return Err(at(Untaken::Refused(SystemRefusal::Record), number));

@@ -115,7 +115,7 @@ fn number_of(digits: &str) -> Option<u32> {
     }
 }
 
-// So many of a unit as ns, if that is below 2^32.
+// This many units in ns, if that is below 2^32.
 fn in_ns(digits: &str, unit: u32) -> Option<u32> {
     number_of(digits)?.checked_mul(unit)
 }

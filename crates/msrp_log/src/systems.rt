@@ -30,7 +30,8 @@ fn steps_of(alloc: Global, plan: &Plan, task: TaskId) -> Result<Vec<Op>, Refused
     Ok(steps)
 }
 
-// A plan's task, whose tick lasts so many ns. Both factors are below 2^32, so no deadline is cut.
+// A task of a plan whose ticks last this many ns. Both factors are below 2^32, so no deadline is
+// cut.
 fn task_of(alloc: Global, plan: &Plan, task: TaskId, tick: u32) -> Result<Task, Refused>
     requires { task.0 < length plan.now.tasks }
 {
@@ -58,7 +59,7 @@ fn tasks_of(alloc: Global, plan: &Plan, tick: u32) -> Result<Vec<Task>, Refused>
     Ok(tasks)
 }
 
-/// The system of a plan's text, a tick of which lasts so many ns.
+/// The system of a plan's text, whose ticks last this many ns.
 pub fn system_of_plan<R: Read + Drop>(
     alloc: Global,
     text: R,
