@@ -85,8 +85,8 @@ enum msrp_style { MSRP_TEXT = 0, MSRP_SVG = 1 };
 uint32_t msrp_version(void);
 
 /* The verdict on a trace of a plan, both as texts: MSRP_GOOD for a legal run, otherwise the first
- * row that violates a rule. A fault in a row before a refused record is reported, and not the
- * refusal. A refused plan is reported whatever the trace is. */
+ * row that violates a rule. If a faulty row precedes a refused record, the fault is reported and
+ * not the refusal. A refused plan is reported whatever the trace is. */
 uint32_t msrp_audit(const uint8_t *plan, size_t plan_len, const uint8_t *trace, size_t trace_len, struct msrp_found *found);
 
 /* The verdict on rows that are numbers. Without so_far the rows are a whole trace. With so_far
@@ -113,7 +113,7 @@ uint32_t msrp_sim(const uint8_t *plan, size_t plan_len, uint32_t order, const ui
 /* The levels and ceilings of a plan. */
 uint32_t msrp_check(const uint8_t *plan, size_t plan_len, uint8_t *text, size_t text_len, size_t *needed, struct msrp_found *found);
 
-/* The plan's own text, in its shortest form. Read again, it is the same plan. */
+/* The plan's own text, in its shortest form, which is read as the same plan. */
 uint32_t msrp_plan_text(const uint8_t *plan, size_t plan_len, uint8_t *text, size_t text_len, size_t *needed, struct msrp_found *found);
 
 /* The picture of a trace, of the ticks from `from` up to `to`, exclusive. If to is 0, it ends with
@@ -129,24 +129,24 @@ uint32_t msrp_why(const uint8_t *plan, size_t plan_len, const uint8_t *trace, si
  * MSRP_REFUSED. */
 uint32_t msrp_why_plan(const uint8_t *plan, size_t plan_len, uint8_t *text, size_t text_len, size_t *needed, struct msrp_found *found);
 
-/* The verdict on rows that are numbers, as msrp_audit_rows gives it with so_far, and the words of
- * msrp_auditor_why on it. While nothing is wrong there is no text. */
+/* The verdict on rows that are numbers, as msrp_audit_rows gives it with so_far, and its cause in
+ * words, as msrp_auditor_why gives it. While nothing is wrong there is no text. */
 uint32_t msrp_why_rows(const uint8_t *plan, size_t plan_len, const struct msrp_row *rows, size_t rows_len, uint8_t *text, size_t text_len, size_t *needed, struct msrp_found *found);
 
-/* The number of the plan's task or resource with this name, as rows have it. If the plan has none of
- * this name the call returns MSRP_USAGE. number is written only with MSRP_GOOD. */
+/* The number that stands for the plan's task or resource of this name in rows. If the plan has no
+ * such name the call returns MSRP_USAGE. number is written only with MSRP_GOOD. */
 uint32_t msrp_task_number(const uint8_t *plan, size_t plan_len, const uint8_t *name, size_t name_len, uint32_t *number, struct msrp_found *found);
 uint32_t msrp_resource_number(const uint8_t *plan, size_t plan_len, const uint8_t *name, size_t name_len, uint32_t *number, struct msrp_found *found);
 
 /* A handle is one pointer, which only these calls follow: to an auditor of rows or of a log, a run,
  * or a core of a run.
  *
- * - It is {NULL} before the call that makes its contents, and after the call that gives them back.
+ * - It is {NULL} before the call that makes its contents, and after the call that frees them.
  * - One call at a time uses it. It may go to another thread if a lock, the start or join of a
  *   thread, or a sequentially consistent atomic orders the calls. A copy may only replace the
  *   handle.
  * - Calls with a null handle, or one of another kind, answer MSRP_USAGE and change nothing.
- * - The plan, or the system of a log, stays in memory until the process ends, also after the handle
+ * - The plan, or the system of a log, stays in memory until the process ends, even after the handle
  *   is freed. */
 
 /* ---- An auditor that is fed row by row. */
@@ -154,41 +154,41 @@ struct msrp_auditor {
     void *at;
 };
 
-/* Makes an auditor of a plan, and takes all memory that feed and end need. If the answer isn't
+/* Makes an auditor of a plan, and allocates all memory that feed and end need. If the answer isn't
  * MSRP_GOOD the handle stays null. If the handle isn't null the answer is MSRP_USAGE, and the
- * handle stays as it is. */
+ * handle is unchanged. */
 uint32_t msrp_auditor_new(const uint8_t *plan, size_t plan_len, struct msrp_auditor *auditor, struct msrp_found *found);
 
-/* The next row, and the verdict on all rows so far, which is that of msrp_audit_rows with so_far.
- * After a fault or a refusal the answer stays. */
+/* Takes the next row, and returns the verdict on all rows so far, which is that of msrp_audit_rows
+ * with so_far. After a fault or a refusal the answer stays the same. */
 uint32_t msrp_auditor_feed(struct msrp_auditor *auditor, const struct msrp_row *row, struct msrp_found *found);
 
-/* The verdict on the rows so far as a whole trace. Rows may be fed after it. */
+/* The verdict on the rows so far as a whole trace. More rows may be fed afterwards. */
 uint32_t msrp_auditor_end(struct msrp_auditor *auditor, struct msrp_found *found);
 
-/* The row that is due of a core: fed next it has no fault, and no other row of the core is without
- * one, but for one that leaves ahead out. The auditor is as before. MSRP_DONE after the last row.
- * MSRP_USAGE after a fault or a refusal, and for a core that the plan doesn't have or that has had
- * its row of this tick. If the answer isn't MSRP_GOOD row is as before. It takes memory, and gives
- * it back: on MSRP_MEMORY nothing changes. */
+/* The row that is expected of a core: if it is fed next it has no fault, and every other row of the
+ * core has one, except that ahead may be left out. The auditor is unchanged. MSRP_DONE after the
+ * last row. MSRP_USAGE after a fault or a refusal, for a core that the plan doesn't have, and for
+ * one that already has its row in this tick. If the answer isn't MSRP_GOOD row is unchanged. The
+ * call allocates memory, and frees it: on MSRP_MEMORY nothing changes. */
 uint32_t msrp_auditor_due(struct msrp_auditor *auditor, uint32_t core, struct msrp_row *row);
 
-/* The verdict on all rows so far, as msrp_auditor_feed answers it, and its cause in words: the record
- * of the verdict, the row that was fed, the rule, and the row that was due. While nothing is wrong
- * the text is empty, and the answer is MSRP_GOOD. The text fits or doesn't, as with the texts above.
- * It takes memory: on MSRP_MEMORY nothing changes. */
+/* The verdict on all rows so far, as msrp_auditor_feed returns it, and its cause in words: the
+ * record of the verdict, the row that was fed, the rule, and the row that was expected. While
+ * nothing is wrong the text is empty, and the answer is MSRP_GOOD. The buffer is used as by the
+ * calls above. The call allocates memory: on MSRP_MEMORY nothing changes. */
 uint32_t msrp_auditor_why(struct msrp_auditor *auditor, uint8_t *text, size_t text_len, size_t *needed, struct msrp_found *found);
 
-/* Begins another trace of the same plan. It takes memory: on MSRP_MEMORY nothing changes. */
+/* Begins another trace of the same plan. It allocates memory: on MSRP_MEMORY nothing changes. */
 uint32_t msrp_auditor_again(struct msrp_auditor *auditor);
 
-/* Gives the auditor's memory back, but for the plan. A null handle is left as it is. */
+/* Frees the auditor, except for the plan. A null handle is unchanged. */
 void msrp_auditor_free(struct msrp_auditor *auditor);
 
-/* ---- An auditor of a kernel's log, which is fed event by event. docs/LOG.md has the events, the
- * rules and the text of a system.
+/* ---- An auditor of a kernel's log, which is fed event by event. docs/LOG.md describes the events,
+ * the rules and the text of a system.
  *
- * A fault isn't certain yet if the cores number their records: see docs/C.md. */
+ * If the cores number their records, a fault isn't certain at once: see docs/C.md. */
 struct msrp_log {
     void *at;
 };
@@ -198,7 +198,7 @@ struct msrp_tolerances {
     uint32_t operation; /* how long an operation on a resource takes */
     uint32_t slack;     /* how long the kernel may take to react */
     uint32_t skew;      /* by how much the clocks of two cores may differ */
-    uint32_t backlog;   /* the most jobs that may be released and not ended; msrp_log takes 4096 */
+    uint32_t backlog;   /* the most jobs that may be released and not ended; 4096 in msrp_log */
 };
 
 /* The numbers up to MSRP_LOG_LOST are also those of enum msrp_event_kind in msrp_events.h. */
@@ -214,7 +214,7 @@ struct msrp_log_event {
     uint64_t seq;       /* the number among the core's records, or MSRP_NO_SEQ */
     uint32_t core;
     uint32_t kind;      /* enum msrp_log_kind */
-    uint32_t task, job; /* of all kinds but boot, stop and lost; both MSRP_NONE for a switch to none */
+    uint32_t task, job; /* of all but boot, stop and lost; both MSRP_NONE for a switch to none */
     uint32_t resource;  /* from lock to freed, and of a poll */
 };
 
@@ -222,24 +222,24 @@ struct msrp_log_event {
 enum msrp_missing { MSRP_LACKS_CORE = 1, MSRP_LACKS_START = 2, MSRP_LACKS_RESTART = 3, MSRP_LACKS_RECORDS = 4, MSRP_LACKS_CLOCK = 5, MSRP_LACKS_RELEASE = 6, MSRP_LACKS_REQUEST = 7, MSRP_LACKS_ROOM = 8 };
 
 /* Why a system is refused, in found->plan_code; found->number is the record, counted from 1. */
-enum msrp_system_refusal { MSRP_SYSTEM_HEAD = 1, MSRP_SYSTEM_RECORD = 2, MSRP_SYSTEM_NUMBER = 3, MSRP_SYSTEM_NAME = 4, MSRP_SYSTEM_TWICE = 5, MSRP_SYSTEM_CORE = 6, MSRP_SYSTEM_RESOURCE = 7, MSRP_SYSTEM_UNMATCHED = 8, MSRP_SYSTEM_LIMIT = 9 };
+enum msrp_system_refusal { MSRP_SYSTEM_HEAD = 1, MSRP_SYSTEM_RECORD = 2, MSRP_SYSTEM_NUMBER = 3, MSRP_SYSTEM_NAME = 4, MSRP_SYSTEM_TWICE = 5, MSRP_SYSTEM_CORE = 6, MSRP_SYSTEM_RESOURCE = 7, MSRP_SYSTEM_UNMATCHED = 8, MSRP_SYSTEM_LIMIT = 9, MSRP_SYSTEM_NESTED = 10 };
 
-/* Makes an auditor of the logs of a system, and takes all memory that feed and end need. If the
+/* Makes an auditor of a log of a system, and allocates all memory that feed and end need. If the
  * answer isn't MSRP_GOOD the handle stays null. If the handle isn't null the answer is MSRP_USAGE,
- * and the handle stays as it is. */
+ * and the handle is unchanged. */
 uint32_t msrp_log_new(const uint8_t *system, size_t system_len, const struct msrp_tolerances *tolerances, struct msrp_log *log, struct msrp_found *found);
 
-/* The next event, and what the events so far show first. MSRP_GOOD: they are the start of a legal
- * log. MSRP_FAULT: the event violates a rule; found->rule is its number after E, 1 to 10.
- * MSRP_REFUSED: the log lacks something; found->trace_code is enum msrp_missing. After a fault, and
- * after something that is missing, the answer stays. MSRP_USAGE if the kind has no such number, or
- * if the event lacks a field of its kind: then nothing changes. */
+/* Takes the next event, and returns what the events so far show first. MSRP_GOOD: they are the
+ * start of a legal log. MSRP_FAULT: an event violates a rule; found->rule is its number after E, 1
+ * to 10. MSRP_REFUSED: something is missing; found->trace_code is an enum msrp_missing. Once
+ * something is found, the answer stays the same. MSRP_USAGE if there is no such kind, or if the
+ * event lacks a field of its kind: then nothing changes. */
 uint32_t msrp_log_feed(struct msrp_log *log, const struct msrp_log_event *event, struct msrp_found *found);
 
-/* What the events so far show first, as msrp_log_feed answers it. Events may be fed after it. */
+/* What the events so far show first, as msrp_log_feed returns it. More events may be fed later. */
 uint32_t msrp_log_end(struct msrp_log *log, struct msrp_found *found);
 
-/* Gives the auditor's memory back, but for the system. A null handle is left as it is. */
+/* Frees the auditor, except for the system. A null handle is unchanged. */
 void msrp_log_free(struct msrp_log *log);
 
 /* ---- A run of a plan on the caller's own threads, with their priorities, processors and stacks.
@@ -249,8 +249,8 @@ void msrp_log_free(struct msrp_log *log);
  * have ended, the caller joins the cores and asks for the trace.
  *
  * No call waits or takes a lock. If a core may not enter its tick yet, the call returns MSRP_WAIT:
- * the caller waits as it likes, and calls again. msrp_run_new allocates all memory, except for
- * that of msrp_run_text. */
+ * the caller spins, yields or sleeps, and calls once more. msrp_run_new allocates all memory,
+ * except for that of msrp_run_text. */
 struct msrp_run {
     void *at;
 };
@@ -260,7 +260,7 @@ struct msrp_core {
 };
 
 /* Makes a run of a plan in a null handle. If the answer isn't MSRP_GOOD the handle stays null. If
- * the handle isn't null the answer is MSRP_USAGE, and the handle stays as it is. */
+ * the handle isn't null the answer is MSRP_USAGE, and the handle is unchanged. */
 uint32_t msrp_run_new(const uint8_t *plan, size_t plan_len, struct msrp_run *run, struct msrp_found *found);
 
 /* Hands out the next core, in ascending order, into a null handle; MSRP_DONE if all are handed out.
@@ -294,7 +294,7 @@ uint32_t msrp_run_text(struct msrp_run *run, uint32_t version, uint8_t *text, si
 /* Gives up a core that won't be joined: its run then has no trace. A null handle is unchanged. */
 void msrp_core_free(struct msrp_core *core);
 
-/* Gives the run's memory back, except for the plan. A null handle is unchanged. */
+/* Frees the run, except for the plan. A null handle is unchanged. */
 void msrp_run_free(struct msrp_run *run);
 
 #ifdef __cplusplus

@@ -70,6 +70,34 @@ static void fail(const char *what, int which) {
     exit(1);
 }
 
+/* Whether a line of a text, counted from 0, begins like this. */
+static bool begins(const uint8_t *text, int line, const char *expected) {
+    for (; line > 0; text++)
+        line -= *text == '\n';
+    return memcmp(text, expected, strlen(expected)) == 0;
+}
+
+/* The names of the header have the numbers that the library knows: kinds of local rows, orders and styles. */
+static void names(void) {
+    static const char *const local = "msrp,1\ncores,1\nticks,3\nresource,g\ntask,a,0,9,9,0\nop,lock,g\nop,run,1\nop,unlock,g\n";
+    static const struct msrp_row rows[] = {
+        {0, 0, MSRP_LOCK, 0, 0, 0, MSRP_NONE}, {1, 0, MSRP_RUN, 0, 0, MSRP_NONE, MSRP_NONE}, {2, 0, MSRP_UNLOCK, 0, 0, 0, MSRP_NONE}};
+    static const struct { uint32_t order; const char *first, *third; } orders[] = {{MSRP_ASC, "0,0,take", "1,0,"}, {MSRP_DESC, "0,1,take", "1,1,"}, {MSRP_ROT, "0,0,take", "1,1,"}};
+    static struct answer answer;
+    struct msrp_found *found = &answer.found;
+    if (msrp_audit_rows(BYTES(local), rows, 3, false, found) != MSRP_GOOD)
+        fail("kinds of local rows", 0);
+    for (int at = 0; at < 3; at++)
+        if (msrp_sim(BYTES(PLAN), orders[at].order, NULL, 0, 1, answer.text, ROOM, &answer.needed, found) != MSRP_GOOD ||
+            !begins(answer.text, 1, orders[at].first) || !begins(answer.text, 3, orders[at].third))
+            fail("another order", at);
+    call(8, &answer);
+    bool is_svg = begins(answer.text, 0, "<svg");
+    call(7, &answer);
+    if (!is_svg || begins(answer.text, 0, "<svg"))
+        fail("another style", is_svg);
+}
+
 #ifndef PLAIN
 /* Each allocation of a call refused in turn: memory is the answer, nothing is written, and nothing is held. */
 static long refused(int which) {
@@ -147,6 +175,7 @@ int main(int count, char **words) {
         if (first[which].status != DUE[which])
             fail("another status", which);
     }
+    names();
     if (count > 1 && strcmp(words[1], "once") == 0)
         return 0;
     threads();

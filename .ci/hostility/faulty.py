@@ -1,4 +1,5 @@
-"""A read that fails behind each byte of a text with a record that is refused, or with a faulty row: what is complete before the failure is judged first, in plans and traces alike."""
+"""A read that fails behind each byte of a text with a record that is refused, or with a faulty row:
+what is complete before the failure is judged first, in plans and traces alike."""
 from .inputs import text
 from .program import BROKEN, COMMANDS, FAULT, READ_FAULT, REFUSED, Answer, judges, words_of
 from .refusals import MOST_CALLS, ask_refusing
@@ -27,7 +28,8 @@ def reads_of(preloaded, plan):
 
 
 def judged_first(found, preloaded, command, what, given, ends):
-    """Fails each read in turn: a read fault until the record is complete, which it is with the first byte of its line end; then its refusal, or the fault of its row."""
+    """Fails each read in turn: a read fault until the record is complete, which it is with the
+    first byte of its line end; then its refusal, or the fault of its row."""
     records, code, number = given
     lines = [record + ends[at == number] for at, record in enumerate(records.splitlines(), 1)]
     whole, complete = b"".join(lines), len(b"".join(lines[:number])) - len(ends[True]) + 1

@@ -1,6 +1,8 @@
-"""The greatest plans that the limits allow, and the least: every command answers each of them whole.
+"""The greatest plans that the limits allow, and the least: every command answers each of them
+whole.
 
-That memory may run out at any time stands in every contract, so a body that gives up on one input is proved. This shows that none does."""
+That memory may run out at any time stands in every contract, so a body that gives up on one input
+is proved. This shows that none does."""
 import json
 import xml.etree.ElementTree as tree
 
@@ -18,7 +20,8 @@ def each(count, form):
 
 
 def task_of_eight(number):
-    """One of 64 tasks, eight on a core, each with 128 jobs: two cores share a global resource, and each core has two of its own."""
+    """One of 64 tasks, eight on a core, each with 128 jobs: two cores share a global resource, and
+    each core has two of its own."""
     core, turn = number % 8, number // 8
     shared, own = core // 2 * 4 + turn % 4, 16 + core * 2 + turn % 2
     return f"""task,t{number},{core},157,{150 + number},0 op,lock,r{shared} op,run,1 op,unlock,r{shared}
@@ -87,7 +90,8 @@ def answered(found, name, command, plan, trace, size):
 
 
 def whole_answers(found, name, plan):
-    """Each command that reads a plan alone, and each that judges, over every trace that was made."""
+    """Each command that reads a plan alone, and each that judges, over every trace that was
+    made."""
     size, path = Size(plan), kept("plan", plan)
     for command in COMMANDS:
         if not judges(command):

@@ -92,7 +92,8 @@ def quoted(record, which):
 
 
 def same_records(whole):
-    """Other bytes with the same records: quotes, other line ends, empty lines, a byte-order mark."""
+    """Other bytes with the same records: quotes, other line ends, empty lines, a byte-order
+    mark."""
     records = whole.splitlines()
     yield "carriage returns before line feeds", whole.replace(b"\n", b"\r\n")
     yield "carriage returns in place of line feeds", whole.replace(b"\n", b"\r")

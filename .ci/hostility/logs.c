@@ -62,15 +62,26 @@ static void refuses_numbers(void) {
 
 static void refuses_systems(void) {
     static const struct { const char *text; uint32_t code, number; } systems[] = {
-        {"", 1, 1}, {"msrp,1\n", 1, 1}, {"msrp-system,1\nticks,4\n", 2, 2}, {"msrp-system,1\ncores,0\n", 3, 2},
-        {"msrp-system,1\ncores,1\nresource,a b\n", 4, 3}, {"msrp-system,1\ncores,1\nresource,a\nresource,a\n", 5, 4},
-        {"msrp-system,1\ncores,1\ntask,a,1,9\n", 6, 3}, {"msrp-system,1\ncores,1\ntask,a,0,9\nop,lock,b\n", 7, 4},
-        {"msrp-system,1\ncores,1\nresource,b\ntask,a,0,9\nop,lock,b\n", 8, 6}};
+        {"", MSRP_SYSTEM_HEAD, 1}, {"msrp,1\n", MSRP_SYSTEM_HEAD, 1}, {"msrp-system,1\nticks,4\n", MSRP_SYSTEM_RECORD, 2},
+        {"msrp-system,1\ncores,0\n", MSRP_SYSTEM_NUMBER, 2}, {"msrp-system,1\ncores,1\nresource,a b\n", MSRP_SYSTEM_NAME, 3},
+        {"msrp-system,1\ncores,1\nresource,a\nresource,a\n", MSRP_SYSTEM_TWICE, 4}, {"msrp-system,1\ncores,1\ntask,a,1,9\n", MSRP_SYSTEM_CORE, 3},
+        {"msrp-system,1\ncores,1\ntask,a,0,9\nop,lock,b\n", MSRP_SYSTEM_RESOURCE, 4},
+        {"msrp-system,1\ncores,1\nresource,b\ntask,a,0,9\nop,lock,b\n", MSRP_SYSTEM_UNMATCHED, 6}};
     struct msrp_log log = {NULL};
     for (size_t at = 0; at < sizeof systems / sizeof *systems; at++) {
         EXPECT(msrp_log_new(BYTES(systems[at].text), &TOLERANCES, &log, &found) == MSRP_REFUSED);
         EXPECT(log.at == NULL && is_found(0, systems[at].code, 0, systems[at].number));
     }
+}
+
+/* A resource more than a system may have. */
+static void refuses_many_resources(void) {
+    static char text[32 * 1024];
+    size_t used = (size_t)sprintf(text, "msrp-system,1\ncores,1\n");
+    struct msrp_log log = {NULL};
+    for (int resource = 0; resource < 1025; resource++)
+        used += (size_t)sprintf(text + used, "resource,r%d\n", resource);
+    EXPECT(msrp_log_new(BYTES(text), &TOLERANCES, &log, &found) == MSRP_REFUSED && log.at == NULL && is_found(0, MSRP_SYSTEM_LIMIT, 0, 1027));
 }
 
 static void refuses_long_text(void) {
@@ -114,11 +125,44 @@ static void audits(void) {
     struct msrp_log log = new_log();
     feeds(&log, COUNT);
     msrp_log_free(&log);
-    /* lo runs on after it unlocks cal; two holders; the tracer lost records; no such task */
-    shows(7, (struct msrp_log_event){19, 0, MSRP_NO_SEQ, 0, MSRP_LOG_REQUEST, 1, 0, 0}, 1, 0);
-    shows(17, (struct msrp_log_event){25, 0, MSRP_NO_SEQ, 1, MSRP_LOG_ACQUIRE, 2, 0, 0}, 10, 0);
+    /* E1 to E10, and what a log lacks */
+    static const struct { size_t count; struct msrp_log_event event; } faults[] = {
+        {7, {19, 0, MSRP_NO_SEQ, 0, MSRP_LOG_REQUEST, 1, 0, 0}}, {19, {30, 0, MSRP_NO_SEQ, 1, MSRP_LOG_ACQUIRE, 2, 0, 0}},
+        {6, {14, 99, MSRP_NO_SEQ, 0, MSRP_LOG_RELEASE, 3, 0, 0}}, {6, {14, 0, MSRP_NO_SEQ, 1, MSRP_LOG_SWITCH, 1, 0, NO}},
+        {6, {14, 0, MSRP_NO_SEQ, 1, MSRP_LOG_SWITCH, 2, 0, NO}}, {13, {23, 0, MSRP_NO_SEQ, 0, MSRP_LOG_SWITCH, 0, 0, NO}},
+        {6, {14, 64, MSRP_NO_SEQ, 0, MSRP_LOG_RELEASE, 0, 0, NO}}, {6, {14, 0, MSRP_NO_SEQ, 0, MSRP_LOG_SWITCH, 0, 0, NO}},
+        {6, {14, 0, MSRP_NO_SEQ, 0, MSRP_LOG_REQUEST, 1, 0, 0}}, {17, {25, 0, MSRP_NO_SEQ, 1, MSRP_LOG_ACQUIRE, 2, 0, 0}}};
+    for (uint32_t at = 0; at < 10; at++)
+        shows(faults[at].count, faults[at].event, at + 1, 0);
+    shows(0, (struct msrp_log_event){0, 0, MSRP_NO_SEQ, 2, MSRP_LOG_BOOT, NO, NO, NO}, 0, MSRP_LACKS_CORE);
+    shows(1, (struct msrp_log_event){5, 105, MSRP_NO_SEQ, 1, MSRP_LOG_RELEASE, 2, 0, NO}, 0, MSRP_LACKS_START);
+    shows(6, (struct msrp_log_event){14, 0, MSRP_NO_SEQ, 0, MSRP_LOG_BOOT, NO, NO, NO}, 0, MSRP_LACKS_RESTART);
     shows(6, (struct msrp_log_event){14, 0, MSRP_NO_SEQ, 0, MSRP_LOG_LOST, 0, 0, 0}, 0, MSRP_LACKS_RECORDS);
-    shows(6, (struct msrp_log_event){14, 99, MSRP_NO_SEQ, 0, MSRP_LOG_RELEASE, 3, 0, 0}, 3, 0);
+    shows(6, (struct msrp_log_event){11, 0, MSRP_NO_SEQ, 0, MSRP_LOG_UNLOCK, 1, 0, 1}, 0, MSRP_LACKS_CLOCK);
+    shows(6, (struct msrp_log_event){14, 164, MSRP_NO_SEQ, 0, MSRP_LOG_RELEASE, 0, 2, NO}, 0, MSRP_LACKS_RELEASE);
+    shows(8, (struct msrp_log_event){17, 0, MSRP_NO_SEQ, 0, MSRP_LOG_ACQUIRE, 0, 0, 1}, 0, MSRP_LACKS_REQUEST);
+}
+
+/* Each tolerance counts: lo runs on for 4 ns after an operation that takes 1 ns, with a slack of 2 ns. */
+static uint32_t late_by(struct msrp_tolerances tolerances) {
+    const struct msrp_log_event late = {19, 0, MSRP_NO_SEQ, 0, MSRP_LOG_REQUEST, 1, 0, 0};
+    struct msrp_log log = {NULL};
+    EXPECT(msrp_log_new(BYTES(SYSTEM), &tolerances, &log, &found) == MSRP_GOOD);
+    feeds(&log, 7);
+    const uint32_t status = msrp_log_feed(&log, &late, &found);
+    msrp_log_free(&log);
+    return status;
+}
+
+static void tolerates(void) {
+    const struct msrp_log_event third = {14, 114, MSRP_NO_SEQ, 1, MSRP_LOG_RELEASE, 2, 0, NO};
+    struct msrp_log log = {NULL};
+    EXPECT(late_by((struct msrp_tolerances){1, 2, 0, 8}) == MSRP_FAULT && late_by((struct msrp_tolerances){3, 2, 0, 8}) == MSRP_GOOD);
+    EXPECT(late_by((struct msrp_tolerances){1, 4, 0, 8}) == MSRP_GOOD && late_by((struct msrp_tolerances){1, 2, 2, 8}) == MSRP_GOOD);
+    EXPECT(msrp_log_new(BYTES(SYSTEM), &(struct msrp_tolerances){1, 2, 0, 2}, &log, &found) == MSRP_GOOD);
+    feeds(&log, 6);
+    EXPECT(msrp_log_feed(&log, &third, &found) == MSRP_REFUSED && is_found(0, 0, MSRP_LACKS_ROOM, 0));
+    msrp_log_free(&log);
 }
 
 #ifndef PLAIN
@@ -140,8 +184,10 @@ static long refuses(void) {
 
 int main(void) {
     audits();
+    tolerates();
     refuses_numbers();
     refuses_systems();
+    refuses_many_resources();
     refuses_long_text();
     refuses_handles();
     refuses_an_auditor();

@@ -1,4 +1,5 @@
-"""Kernel logs, for the library for C: the log of examples/log, changed at random, as numbers and as text."""
+"""Kernel logs, for the library for C: the log of examples/log, changed at random, as numbers and as
+text."""
 import ctypes
 import random
 
@@ -88,16 +89,17 @@ def words(tolerances):
 
 
 def is_lack(records, number):
-    """Whether this record may show that earlier ones were lost: by its number, or as a lost record, or as the first one of its core but no boot.
-    The head of the log is record 1."""
+    """Whether this record may show that earlier ones were lost: by its number, or as a lost record,
+    or as the first one of its core but no boot. The head of the log is record 1."""
     record, before = records[number - 2], records[:number - 2]
     is_first = all(earlier[1] != record[1] for earlier in before)
     return bool(record[7]) or record[2] == "lost" or is_first and record[2] != "boot"
 
 
 def is_verdict(line, shown, records):
-    """Whether the program's line is the verdict where a record shows this rule or lack first. The program also says whether
-    a fault is certain, and where a later record shows that some were lost, it says so in its place."""
+    """Whether the program's line is the verdict where a record shows this rule or lack first. The
+    program also says whether a fault is certain, and where a later record shows that some were
+    lost, it says so in its place."""
     if shown is None:
         return line == "good"
     what, record, code = line.split(",")

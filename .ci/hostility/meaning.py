@@ -1,4 +1,5 @@
-"""What must agree between the answers of different commands to the same input, whatever the input is."""
+"""What must agree between the answers of different commands to the same input, whatever the input
+is."""
 from .program import COMMANDS, FAULT, GOOD, REFUSED, ask, is_named, judges, makes_trace, varies, words_of
 from .sweep import kept
 
@@ -17,7 +18,8 @@ def refuses_plan(answer):
 
 
 def agree_on_plan(found, what, answers):
-    """All commands refuse a plan by the same line, or none does; and a plan that stands alone is answered."""
+    """All commands refuse a plan by the same line, or none does; and a plan that stands alone is
+    answered."""
     refusals = {answer.line if refuses_plan(answer) else b"" for answer in answers.values()}
     found.judge(len(refusals) == 1, f"{what}: commands differ on the plan", refusals)
     for command, answer in answers.items():

@@ -96,7 +96,8 @@ def count_on(rng, text):
     return b"\n".join([*records[:at], b",".join(fields), *records[at + 1:]])
 
 
-# Changes of records stand here more than once: changes of bytes alone are nearly all refused at once.
+# Changes of records stand here more than once: changes of bytes alone are nearly all refused at
+# once.
 CHANGES = (cut, double, swap, flip, separate, spoil, lengthen) + 3 * (move_record, change_field, count_on)
 
 

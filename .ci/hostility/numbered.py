@@ -1,4 +1,5 @@
-"""Rows as numbers, for the library for C: runs in which one row was changed at random, as numbers and as the text of the same rows."""
+"""Rows as numbers, for the library for C: runs in which one row was changed at random, as numbers
+and as the text of the same rows."""
 import ctypes
 import random
 

@@ -12,7 +12,8 @@ from .sweep import kept
 # A plan whose trace is longer than a pipe holds: 8 cores and 20,000 ticks.
 LONG_PLAN = text("msrp,1 cores,8 ticks,20000 " + " ".join(f"task,t{core},{core},100,100,0 op,run,5" for core in range(8)))
 LONG_ROWS = 160_001
-# One whose trace takes more than one write, and how much of it a file takes: about as much as is gathered for one.
+# One whose trace takes more than one write, and how much of it a file takes: about as much as is
+# gathered for one.
 PAGES, SIZES = Input("many pages", text("msrp,1 cores,8 ticks,999"), b""), (0, 1, 8191, 8192, 8193, 20000, 100000)
 REST = 0.3  # seconds
 LONG_COMMANDS = tuple(command for command in COMMANDS if makes_trace(command))
@@ -34,7 +35,8 @@ def ended(ran):
 
 
 def closed_while_writing(found, command, ignored):
-    """A reader takes a first part and closes the pipe: a write fault, and no signal ends the program, whether it is ignored or not."""
+    """A reader takes a first part and closes the pipe: a write fault, and no signal ends the
+    program, whether it is ignored or not."""
     ran = started(words_of(command, kept("plan", LONG_PLAN), ""), restore_signals=not ignored)
     ran.stdout.read(1000)
     ran.stdout.close()
@@ -44,7 +46,8 @@ def closed_while_writing(found, command, ignored):
 
 
 def stopped_reader(found, command, goes_on):
-    """A reader stops for a while: the program waits, and then writes the rest, or meets the closed pipe."""
+    """A reader stops for a while: the program waits, and then writes the rest, or meets the closed
+    pipe."""
     ran = started(words_of(command, kept("plan", LONG_PLAN), ""))
     head = ran.stdout.read(100)
     time.sleep(REST)

@@ -9,7 +9,8 @@ PROGRAM = TOP / "crates" / "msrp" / "out" / "msrp"
 VIEWER = TOP / "crates" / "msrp_view" / "out" / "msrp_view"
 SECONDS = 60  # a command that takes longer hangs: `run` on eight threads has few processors where sweeps go side by side
 
-# The commands that the program has: most sweeps go over these. A command that comes later is added here alone.
+# The commands that the program has: most sweeps go over these. A command that comes later is added
+# here alone.
 COMMANDS = ("sim", "sim --order desc", "sim --order rot --ahead", "run", "run --ahead", "audit", "audit --parallel", "report", "check", "check --text")
 PICTURES = ("--text",)  # the command of the second program whose reads and writes fail in turn
 
@@ -23,7 +24,8 @@ LOCKS = rb"(lock|unlock|take|queue|spin|grant|release)"
 
 
 def record(*shapes):
-    """The pattern of one of these records, in which N stands for a number, A for a name and L for a kind of lock row."""
+    """The pattern of one of these records, in which N stands for a number, A for a name and L for a
+    kind of lock row."""
     return re.compile(b"|".join(shape.replace(b"N", NUMBER).replace(b"A", NAME).replace(b"L", LOCKS) for shape in shapes))
 
 
@@ -36,7 +38,8 @@ RECORDS = {
 
 
 class Answer(NamedTuple):
-    """What the program gave: its status (below 0 the signal that ended it, None where it hung), its output and the line of its fault."""
+    """What the program gave: its status (below 0 the signal that ended it, None where it hung), its
+    output and the line of its fault."""
 
     status: "int | None"
     out: bytes
@@ -99,7 +102,8 @@ def is_whole(command, out):
 
 
 def is_named(command, answer):
-    """Whether this is one of the answers that the command may give to an input that ends, with memory and threads at hand."""
+    """Whether this is one of the answers that the command may give to an input that ends, with
+    memory and threads at hand."""
     if answer.status == GOOD:
         return not answer.line and is_whole(command, answer.out)
     if answer.status == FAULT:

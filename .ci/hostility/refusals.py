@@ -1,4 +1,5 @@
-"""Calls to the C library refused in turn: growths of memory, starts of threads, reads and writes; and limits of the system on memory and processes."""
+"""Calls to the C library refused in turn: growths of memory, starts of threads, reads and writes;
+and limits of the system on memory and processes."""
 import os
 import resource
 import shutil
@@ -43,7 +44,8 @@ def library(place):
 
 
 def ask_told(preloaded, words, program=PROGRAM, **how):
-    """Runs the program over the library, which is told by these words, and what the library tells."""
+    """Runs the program over the library, which is told by these words, and what the library
+    tells."""
     read, write = os.pipe()
     environment = {"LD_PRELOAD": str(preloaded), "MSRP_HINTS": "0", "REFUSE_TELL": str(write), **{f"REFUSE_{name}".rstrip("_"): str(value) for name, value in how.items()}}
     try:
@@ -62,14 +64,16 @@ def ask_refusing(preloaded, words, call, first, last=None, how="error", short=Fa
 
 
 def growths_before_a_start(preloaded):
-    """How many growths a start of a thread wants before the system is asked for it: as many as lie between two starts."""
+    """How many growths a start of a thread wants before the system is asked for it: as many as lie
+    between two starts."""
     words = words_of("run", kept("two cores", HANDOVER_WITHIN_A_TICK.plan), "")
     _, told = ask_told(preloaded, words, TRACE=1)
     return told.split(b"<")[1].split(b">")[1].count(b".")
 
 
 def growths_of_starts(preloaded, words, program=PROGRAM):
-    """The numbers of the growths that the starts of threads want, with nothing refused: those in a start, and some before it."""
+    """The numbers of the growths that the starts of threads want, with nothing refused: those in a
+    start, and some before it."""
     _, told = ask_told(preloaded, words, program, TRACE=1)
     before, *starts = told.split(b"<")
     want, made, numbers = growths_before_a_start(preloaded), before.count(b"."), set()
@@ -90,7 +94,8 @@ def is_audited(plan, out):
 
 
 def is_ample(command, words, ample, answer):
-    """Whether this is the answer of ample memory; a run's trace differs from run to run, so it is audited."""
+    """Whether this is the answer of ample memory; a run's trace differs from run to run, so it is
+    audited."""
     if not varies(command) or ample.status != GOOD:
         return answer == ample
     return answer.status == GOOD and not answer.line and is_whole(command, answer.out) and is_audited(words[-1], answer.out)
@@ -106,8 +111,8 @@ def paths_of(given):
 
 
 def want_of(command, call, number, starts):
-    """The lines that may tell of want where this call is refused: that threads are wanting is told of a run alone, and where a thread's start was refused.
-    An audit does without threads."""
+    """The lines that may tell of want where this call is refused: that threads are wanting is told
+    of a run alone, and where a thread's start was refused. An audit does without threads."""
     if command in STARTS_THREADS and (call == "thread" or number in starts):
         return (THREADS,)
     return () if call == "thread" else (MEMORY,)
@@ -143,7 +148,8 @@ def threads(found, preloaded, command, given, lasting):
 
 
 def calls_refused(found, preloaded, word, call, lasting):
-    """Each growth, or each thread, refused in turn to a single call: a new board whose steps are then made, or a run that counts its turns."""
+    """Each growth, or each thread, refused in turn to a single call: a new board whose steps are
+    then made, or a run that counts its turns."""
     starts = growths_of_starts(preloaded, [word], CALLS)
     ample = STEPS if word == "board" else b"ok %d\n" % TURNS
     none, all_turns, unstarted = b"U1 0\n", b"U1 %d\n" % TURNS, b"U2 0\n"
@@ -179,7 +185,8 @@ def reads(found, preloaded, command, given, how):
 
 
 def writes(found, preloaded, command, given, how):
-    """Each write fails in turn, of one byte each: a write fault, and what was written is all before it. The second program tries an interrupted write again."""
+    """Each write fails in turn, of one byte each: a write fault, and what was written is all before
+    it. The second program tries an interrupted write again."""
     words = words_of(command, *paths_of(given))
     ample = ask(words, program_of(command))
     for number in range(1, MOST_CALLS):
@@ -203,7 +210,8 @@ def short_calls(found, preloaded, command, given):
 
 
 def limited(words, program=PROGRAM, **limits):
-    """Runs the program under limits of the system, by name; as nobody where it is the number of processes and the user is root."""
+    """Runs the program under limits of the system, by name; as nobody where it is the number of
+    processes and the user is root."""
     def begin():
         for name, most in limits.items():
             resource.setrlimit(getattr(resource, f"RLIMIT_{name}"), (most, most))
@@ -215,7 +223,8 @@ def limited(words, program=PROGRAM, **limits):
 
 
 def address_space(found, given):
-    """Too little room for threads, from where a simulation has its room: threads or memory are refused, or the run is whole."""
+    """Too little room for threads, from where a simulation has its room: threads or memory are
+    refused, or the run is whole."""
     plan, _ = paths_of(given)
     room = next(room for room in range(BIT_OF_MEMORY, MOST_MEMORY, BIT_OF_MEMORY) if limited(["sim", str(plan)], AS=room).status == GOOD)
     words = words_of("run", plan, "")
@@ -232,7 +241,8 @@ def address_space(found, given):
 
 
 def processes(found, given, cores, place):
-    """Fewer processes than threads are wanted: threads is the answer. With one for each and one for the program, the run is whole."""
+    """Fewer processes than threads are wanted: threads is the answer. With one for each and one for
+    the program, the run is whole."""
     open_place = Path(place) / f"open-{os.getpid()}"
     open_place.mkdir(mode=0o755)
     plan, program = open_place / "plan", open_place / "msrp"

@@ -1,4 +1,5 @@
-"""What the sweeps share: a place for files, the count of what was found, and processors side by side."""
+"""What the sweeps share: a place for files, the count of what was found, and processors side by
+side."""
 import multiprocessing
 import os
 import sys
@@ -23,7 +24,8 @@ def kept(name, content):
 
 
 class Found:
-    """What a piece of a sweep found: counts and greatest numbers by name, and a line for each failure."""
+    """What a piece of a sweep found: counts and greatest numbers by name, and a line for each
+    failure."""
 
     def __init__(self):
         self.counts, self.reached, self.failures = Counter(), Counter(), []

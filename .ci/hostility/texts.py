@@ -155,7 +155,8 @@ def feed(pipe, head, again):
 
 
 def ask_endless(words, head, again):
-    """Runs the program on an input that never ends; its answer, and its peak memory in kilobytes."""
+    """Runs the program on an input that never ends; its answer, and its peak memory in
+    kilobytes."""
     read, write = os.pipe()
     ran = subprocess.Popen([str(PROGRAM), *words], stdin=read, stdout=subprocess.PIPE, stderr=subprocess.PIPE)
     os.close(read)
@@ -182,7 +183,8 @@ def endless(found, command, kind, what, head, again, wanted):
 
 
 def limit_of_bytes(found):
-    """An input one byte short of the limit is answered; at the limit its end can't be found any more."""
+    """An input one byte short of the limit is answered; at the limit its end can't be found any
+    more."""
     for size, wanted in ((LIMIT - 1, GOOD), (LIMIT, BROKEN), (LIMIT + 1, BROKEN)):
         plan = WORK_THEN_IDLE.plan + b"\n" * (size - len(WORK_THEN_IDLE.plan))
         for command in PLAN_COMMANDS:

@@ -13,7 +13,8 @@ KINDS = ("run", "idle", "lock", "unlock", "take", "queue", "spin", "grant", "rel
 
 
 def changed(row, rows, chance):
-    """The row with one other field; or, twice as often, what another row of the trace says in its tick and on its core."""
+    """The row with one other field; or, twice as often, what another row of the trace says in its
+    tick and on its core."""
     fields, others = (it.decode().rstrip("\n").split(",") for it in (row, chance.choice(rows)))
     place = chance.randrange(15)
     if place > 4:
@@ -33,7 +34,8 @@ def row_of(answer):
 
 
 def ceilings(plan):
-    """The ceiling of each resource at each core, by the plan's text, in the plan's order of resources."""
+    """The ceiling of each resource at each core, by the plan's text, in the plan's order of
+    resources."""
     uses, deadlines, cores, resources = {}, {}, {}, []
     for fields in (line.split(",") for line in plan.read_text().split()):
         if fields[0] == "resource":
@@ -121,7 +123,8 @@ def facts(plan, before, row):
 
 
 def explained(found, what, plan, trace):
-    """The fault is that of `audit`, with the facts that the rows before it give; the row that is said to be expected makes the trace legal up to there."""
+    """The fault is that of `audit`, with the facts that the rows before it give; the row that is
+    said to be expected makes the trace legal up to there."""
     path = kept("trace", b"".join(trace))
     judged, why = verdict(plan, path), ask(["--why", str(plan), str(path)], VIEWER)
     same = why.status == judged.status and why.out.startswith(judged.out) and why.line == judged.line.replace(b"msrp:", b"msrp_view:")

@@ -1,4 +1,5 @@
-"""Random command lines: each is answered by a usage fault, by help, or by an answer of its command."""
+"""Random command lines: each is answered by a usage fault, by help, or by an answer of its
+command."""
 import random
 
 from .inputs import HANDOVER_WITHIN_A_TICK

@@ -9,7 +9,11 @@ HEAD = "['verdict', 'size', 'report-note', 'corner'].map((name) => byId(name).te
 TELL = "lanes.map((lane) => Array.from({ length: facts.ticks }, (_, tick) => describe(lane, tick)))"
 STATUS = """(() => { const { selected, cursor } = state; return [Math.round(view.from * 1000), Math.round(view.to * 1000),
   selected && [selected.task, selected.number], cursor && [lanes.indexOf(cursor.lane), cursor.tick], byId('detail').textContent]; })()"""
-DETAILS = "lanes.map((lane) => Array.from({ length: facts.ticks }, (_, tick) => { choose({ lane, tick }); const [, , job, at, said] = %s; return [job, at, said]; }))" % STATUS
+DETAILS = """(step) => lanes.map((lane) => Array.from({ length: Math.ceil(facts.ticks / step) }, (_, place) => {
+  choose({ lane, tick: place * step });
+  const [, , job, at, said] = %s;
+  return [job, at, said];
+}))""" % STATUS
 REPORT = """[...document.querySelectorAll('#report tr')].slice(1).map((row) => [[...row.children].map((cell) => cell.textContent),
   [...row.querySelectorAll('.bar')].map((bar) => ['--observed', '--bound'].map((name) => Number.parseFloat(bar.style.getPropertyValue(name)).toFixed(3)))])"""
 TABLE = "(() => { writeTable(); return [...document.querySelectorAll('#table tr')].map((row) => [...row.children].map((cell) => cell.textContent)); })()"
@@ -19,12 +23,13 @@ WHY = "[...document.querySelectorAll('#why div')].map((line) => [line.textConten
 
 def same(name, found, wanted):
     """Whether all is as wanted; the first difference is shown."""
-    found, wanted = json.loads(json.dumps(found)), json.loads(json.dumps(wanted))
+    if found != wanted:
+        found, wanted = json.loads(json.dumps(found)), json.loads(json.dumps(wanted))
     where = ""
     while found != wanted and isinstance(found, list) and isinstance(wanted, list) and len(found) == len(wanted):
         place = next(place for place, (a, b) in enumerate(zip(found, wanted)) if a != b)
         found, wanted, where = found[place], wanted[place], f"{where} {place}"
-    judge(found == wanted, f"{name}:{where} {str(found)[:300]}, not {str(wanted)[:300]}")
+    judge(found == wanted, name if found == wanted else f"{name}:{where} {str(found)[:300]}, not {str(wanted)[:300]}")
 
 
 class Reader:
@@ -32,7 +37,7 @@ class Reader:
 
     def __init__(self, words):
         self.words, self.ticks = words, words.ticks
-        self.start, self.end, self.job, self.cursor, self.said, self.next_late = 0, self.ticks, None, None, "", -1
+        self.start, self.end, self.job, self.cursor, self.said, self.next_late, self.folded = 0, self.ticks, None, None, "", -1, set()
         if self.ticks > 300:
             self.view(0, 200)
         if words.fault:
@@ -49,10 +54,10 @@ class Reader:
     def pan(self, ticks):
         self.view(self.start + ticks, self.end + ticks)
 
-    def zoom(self, factor):
-        span, middle = min(self.ticks, max(4, (self.end - self.start) * factor)), (self.start + self.end) / 2
-        share = (middle - self.start) / (self.end - self.start)
-        self.view(middle - share * span, middle + (1 - share) * span)
+    def zoom(self, factor, around=None):
+        span, place = min(self.ticks, max(4, (self.end - self.start) * factor)), (self.start + self.end) / 2 if around is None else around
+        share = (place - self.start) / (self.end - self.start)
+        self.view(place - share * span, place + (1 - share) * span)
 
     def choose(self, place):
         lane = place and self.words.lanes[place[0]]
@@ -63,6 +68,7 @@ class Reader:
         at, span = min(max(0, tick), self.ticks - 1), min(self.end - self.start, 120)
         self.view(at - span / 2, at + span / 2)
         self.job, self.cursor = job, [lane, at]
+        self.folded.discard(self.words.lanes[lane].core)
         self.said = self.words.detail(text or self.words.describe(self.words.lanes[lane], at), job)
 
     def to_tick(self, tick):
@@ -85,9 +91,14 @@ class Reader:
         if found:
             self.to_job(found[0], found[1][1])
 
+    def shown(self):
+        """The lanes that aren't folded."""
+        return [number for number, lane in enumerate(self.words.lanes) if lane.what in ("core", "head") or lane.core not in self.folded]
+
     def move(self, across, down):
         lane, tick = self.cursor or [0, int(self.start)]
-        lane = min(max(0, lane + down), len(self.words.lanes) - 1)
+        lanes = self.shown()
+        lane = lanes[min(max(0, (lanes.index(lane) if lane in lanes else -1) + down), len(lanes) - 1)]
         if across:
             shown = self.words.lanes[lane]
             begins = [block.first for number in shown.numbers for block in self.words.blocks[POINTED[shown.what][0], number] if (block.first - tick) * across > 0]
@@ -102,11 +113,11 @@ class Reader:
         {"+": lambda: self.zoom(0.6), "=": lambda: self.zoom(0.6), "-": lambda: self.zoom(1 / 0.6), "0": lambda: self.view(0, self.ticks),
          "ArrowRight": lambda: self.move(1, 0), "ArrowLeft": lambda: self.move(-1, 0), "ArrowDown": lambda: self.move(0, 1), "ArrowUp": lambda: self.move(0, -1),
          "PageDown": lambda: self.pan(span * 0.8), "PageUp": lambda: self.pan(-span * 0.8), "Home": lambda: self.pan(-self.ticks), "End": lambda: self.pan(self.ticks),
-         "Enter": lambda: self.choose(self.cursor), "Escape": lambda: self.choose(None), "f": self.to_fault, "l": self.to_late, "w": self.to_wait, "F": self.to_fault}[key]()
+         "Enter": lambda: self.choose(self.cursor), "Escape": lambda: self.choose(None), "f": self.to_fault, "l": self.to_late, "w": self.to_wait}[key if len(key) > 1 else key.lower()]()
 
 
 KEYS = ("ArrowDown ArrowDown ArrowRight ArrowRight Enter + + PageDown = PageUp ArrowLeft ArrowUp - End Home w ArrowUp Escape ArrowUp ArrowRight Enter ArrowRight 0 l + + + + l "
-        "ArrowLeft ArrowLeft ArrowLeft ArrowLeft End ArrowLeft ArrowLeft f F 0 w Enter" + " ArrowDown Enter ArrowRight" * 12 + " ArrowUp ArrowLeft" * 12).split()
+        "ArrowLeft ArrowLeft ArrowLeft ArrowLeft End ArrowLeft ArrowLeft f F Escape L Escape W 0 w Enter" + " ArrowDown Enter ArrowRight" * 12 + " ArrowUp ArrowLeft" * 12).split()
 
 
 def tells(browser, name, path, facts, words):
@@ -115,9 +126,9 @@ def tells(browser, name, path, facts, words):
     said = [[words.describe(lane, tick) for tick in range(words.ticks)] for lane in words.lanes]
     same(f"{name}: lanes", browser.value("lanes.map(({ name }) => name)"), [lane.name for lane in words.lanes])
     same(f"{name}: texts", browser.value(TELL), said)
-    jobs = [[words.chosen(lane, tick) for tick in range(words.ticks)] for lane in words.lanes]
-    chosen = [[[job and job[:2], [number, tick], words.detail(said[number][tick], job)] for tick, job in enumerate(row)] for number, row in enumerate(jobs)]
-    same(f"{name}: clicks", browser.value(DETAILS), chosen)
+    step = 1 + len(words.lanes) * words.ticks // 1500
+    chosen = [[[job and job[:2], [number, tick], words.detail(said[number][tick], job)] for tick in range(0, words.ticks, step) for job in [words.chosen(lane, tick)]] for number, lane in enumerate(words.lanes)]
+    same(f"{name}: clicks", browser.value(f"({DETAILS})({step})"), chosen)
     report = words.report()
     same(f"{name}: report", browser.value(REPORT), [row[:2] for row in report])
     same(f"{name}: buttons", browser.value(BUTTONS), [not words.fault, not words.late, not words.longest_wait(), not any(len(lane.numbers) > 1 for lane in words.lanes),
@@ -165,7 +176,7 @@ def acts(browser, name, path, facts):
     browser.open(path)
     reader = Reader(words)
     same(f"{name}: at first", browser.value(STATUS), reader.status())
-    browser.value("byId('hide').click()")
+    browser.value("(byId('lanes').style.maxHeight = 'none', byId('hide').click())")
     leads(browser, name, words, reader)
     found, wanted = browser.value(f"{json.dumps(KEYS)}.map((key) => {{ canvas.dispatchEvent(new KeyboardEvent('keydown', {{ key, cancelable: true }})); return [key, {STATUS}, {TABLE}]; }})"), []
     for key in KEYS:

@@ -13,20 +13,20 @@ RECORD = """(() => {
     constructor(shape) { super(shape); this.said = shape ? shape : []; }
     addPath(shape, at) { this.said.push([shape.said, at.e, at.f]); super.addPath(shape, at); }
   };
-  for (const name of 'fillRect fillText strokeRect stroke moveTo bezierCurveTo lineTo'.split(' ')) {
+  for (const name of 'fillRect fillText strokeRect stroke moveTo bezierCurveTo lineTo rect'.split(' ')) {
     const own = canvas[name];
     canvas[name] = function (...words) {
-      const colour = /^fill/.test(name) ? this.fillStyle : this.strokeStyle;
+      const colour = name === 'rect' ? 'clip' : /^fill/.test(name) ? this.fillStyle : this.strokeStyle;
       const said = words.map((word) => (word instanceof Own ? word.said : word));
       if (this.canvas.id) window.ops.push([this.canvas.id, name, ...said, typeof colour === 'string' ? colour : 'hatch', this.globalAlpha]);
       return own.apply(this, words);
     };
   }
 })()"""
-DRAW = """(() => { setView(%s, %s); choose(%s); layOut(); ops.length = 0; drawMap(); draw();
+DRAW = """(() => { setView(%s, %s); byId('lanes').style.maxHeight = '%s'; choose(%s); layOut(); byId('lanes').scrollTop = %s; ops.length = 0; drawMap(); draw();
   const box = canvas.getBoundingClientRect(), pen = document.createElement('canvas').getContext('2d'), style = getComputedStyle(document.documentElement);
   const colour = (name) => { pen.fillStyle = style.getPropertyValue('--' + name).trim(); return [name, pen.fillStyle]; };
-  return { ops: window.ops.splice(0), width: box.width, height: box.height, wide: context.measureText('0').width, seen: canvas.dataset.blocks, map: byId('map').clientWidth,
+  return { ops: window.ops.splice(0), width: box.width, height: box.height, scrolled: byId('lanes').scrollTop, wide: context.measureText('0').width, seen: canvas.dataset.blocks, map: byId('map').clientWidth,
     colours: Object.fromEntries('back text faint line lane works runs waits late life ceiling focus'.split(' ').map(colour)), window: ['left', 'right'].map((side) => Number.parseFloat(byId('window').style[side])),
     names: [...document.querySelectorAll('#names .lane')].map((one) => [Number.parseFloat(one.style.top), Number.parseFloat(one.style.height), [...one.children].map((part) => part.textContent).join('|')]) }; })()"""
 EDGE, AXIS, LETTER = 6, 26, 6.7
@@ -47,13 +47,14 @@ class Drawing:
         self.words, self.start, self.end, self.ops, self.count = words, start, end, [], 0
         self.width, self.height, self.wide, self.colours = found["width"], found["height"], found["wide"], found["colours"]
         self.scale = (self.width - 2 * EDGE) / (end - start)
+        self.scrolled = found["scrolled"]
         self.place, self.job = place, place and words.chosen(words.lanes[place[0]], place[1])
         self.links = words.links(self.job) if self.job else []
         self.related = {self.job and self.job[:2], *((link.task, link.job) for link in self.links)}
         self.tops, top = {}, AXIS
         for number, lane in enumerate(words.lanes):
             if self.wanted(number, lane):
-                self.tops[number], top = top, top + HEIGHTS[lane.what]
+                self.tops[number], top = top - self.scrolled, top + HEIGHTS[lane.what]
 
     def own(self, lane):
         return sorted((job for job in self.words.jobs.values() if lane.what == "task" and job.task in lane.numbers), key=lambda job: job.release)
@@ -82,8 +83,10 @@ class Drawing:
         colours = self.colours
         self.op("fillRect", 0, 0, self.width, self.height, colours["back"], 1)
         self.axis()
+        self.op("rect", 0, AXIS, self.width, self.height, "clip", 1)  # what is below the axis
         for number, top in self.tops.items():
-            self.lane(self.words.lanes[number], top)
+            if -HEIGHTS[self.words.lanes[number].what] < top < self.height:
+                self.lane(self.words.lanes[number], top)
         frames = []
         if self.words.fault:
             lane, tick = self.words.fault_lane(), self.words.fault_tick
@@ -119,7 +122,7 @@ class Drawing:
     def lane(self, lane, top):
         if lane.what in ("core", "head"):
             self.op("fillRect", 0, top, self.width, HEIGHTS[lane.what], self.colours["lane"], 1)
-        self.op("fillRect", 0, top, self.width, 1, self.colours["line"], 1)
+        self.op("fillRect", 0, near(top), self.width, 1, self.colours["line"], 1)
         for look in LAYERS[lane.what]:
             for number in lane.numbers:
                 for block in self.blocks(look, number, self.start, self.end, 3 / self.scale):
@@ -139,9 +142,9 @@ class Drawing:
                 self.box(block, top + 16, 28, "hatch", label)
             self.count -= waits and wide
         elif block.look == HOLDS and self.scale >= 0.25:
-            inside = lambda one: sum(one.first >= other.first and one.first < other.end for other in self.words.blocks[HOLDS, block.task][:self.words.blocks[HOLDS, block.task].index(one)])
-            high = max(4, 14 // max(1 + inside(one) for one in self.words.blocks[HOLDS, block.task]))
-            self.box(block, top + 30 + inside(block) * high, high, hue, resource, "#000000")
+            depths = self.words.depths(block.task)
+            high = max(4, 14 // (1 + max(depths.values())))
+            self.box(block, top + 30 + depths[block] * high, high, hue, resource, "#000000")
         elif block.look != HOLDS:
             more = f" +{block.value}" if block.look == FIRST and block.value else ""
             y, high, fill, text = {RUNS: (3, 18, colours["runs"], task), FIRST: (3, 18, hue, task + more), LIFE: (13, 2, colours["life"], ""),
@@ -183,7 +186,7 @@ class Drawing:
     def lines(self):
         for link in self.links:
             own, other = (self.tops.get(self.words.lane_of(task)) for task in (self.job.task, link.task))
-            if own and other:
+            if own is not None and other is not None:
                 x, ink = self.x(link.first), (self.colours["focus"], 1)
                 self.op("moveTo", x, own + 30, *ink)
                 self.op("bezierCurveTo", x - 14, own + 30, x - 14, other + 30, x, other + 30, *ink)
@@ -198,7 +201,7 @@ class Drawing:
             if lane.what == "task":
                 bodies = f"{len(lane.numbers)} bodies, " if len(lane.numbers) > 1 else ""
                 text += f"|{bodies}level {self.words.plan.tasks[lane.numbers[0]]['level']}"
-            found.append([top, HEIGHTS[lane.what], text])
+            found.append([top + self.scrolled, HEIGHTS[lane.what], text])
         return found
 
     def map(self, width):
@@ -216,16 +219,20 @@ class Drawing:
 
 def close(found, wanted):
     """What is found, with numbers that are as good as wanted."""
+    if found == wanted:
+        return wanted
     if isinstance(found, list) and isinstance(wanted, list):
         return [close(a, b) for a, b in zip(found, wanted)] + found[len(wanted):]
     numbers = isinstance(found, (int, float)) and isinstance(wanted, (int, float))
     return wanted if numbers and abs(found - wanted) < 0.01 else found
 
 
-def drawn(browser, name, words, start, end, place):
-    """What is drawn between two ticks, with a place chosen."""
-    at = f"{{ lane: lanes[{place[0]}], tick: {place[1]} }}" if place else "null"
-    found = browser.value(DRAW % (start, end, at))
+def drawn(browser, name, words, start, end, place, high="none", scrolled=0):
+    """What is drawn between two ticks, with a place chosen, of lanes that are so high and scrolled."""
+    span = min(words.ticks, max(4, end - start))
+    start = min(max(0, start), words.ticks - span)
+    end, at = start + span, f"{{ lane: lanes[{place[0]}], tick: {place[1]} }}" if place else "null"
+    found = browser.value(DRAW % (start, end, high, at, scrolled))
     drawing = Drawing(words, found, start, end, place)
     wanted, window = drawing.all(), [100 * start / words.ticks, 100 * (words.ticks - end) / words.ticks]
     wanted = drawing.map(found["map"]) + wanted
@@ -239,12 +246,21 @@ def pictures(browser, name, path, facts):
     words = Words(facts)
     browser.open(path)
     browser.value("byId('hide').checked = true")
-    # A release right at the edge: by its arrow alone a lane is in sight.
+    # A release right at the edge: by its arrow alone a lane is in sight. So is a deadline at the other one.
     over = lambda life: all(max(one[3:5]) < life[2] - 5 for one in facts.all if one[0] == life[0] and one[1] < life[1])
     last = max((life[2] for life in facts.all if life[2] >= 5 and over(life)), default=5)
-    for start, end in ((0, words.ticks), (words.ticks / 4, words.ticks / 2 + 4), (words.ticks - 5.5, words.ticks), (1.25, 5.25), (last - 5, last)):
+    alone = lambda life: all(not life[3] - 1 < one[2] <= life[3] + 5 for one in facts.all if one[0] == life[0])
+    due = min((life[3] for life in facts.all if life[4] < life[3] and alone(life)), default=4)
+    freed = max((block.end for lane in words.lanes if lane.what == "queue" for block in words.blocks[FIRST, lane.numbers[0]]), default=4)
+    for start in (due, freed, min((life[4] for life in facts.all if life[5]), default=4)):
+        drawn(browser, name, words, start, start + 5, None)
+    views = ((0, words.ticks), (words.ticks / 4, words.ticks / 2 + 4), (words.ticks - 5.5, words.ticks), (1.25, 5.25), (last - 5, last))
+    for view, (start, end) in enumerate(views):
         drawn(browser, name, words, start, end, None)
-        for number, lane in enumerate(words.lanes):
-            blocks = [block for look in LAYERS[lane.what] for one in lane.numbers for block in words.blocks[look, one]]
+        # Of many lanes each lights up a job in one view, or in some of them.
+        for number in range(*(view, len(words.lanes), 5) if len(words.lanes) > 30 else (0, len(words.lanes), 1 + (view > 1))):
+            blocks = [block for look in LAYERS[words.lanes[number].what] for one in words.lanes[number].numbers for block in words.blocks[look, one]]
             for tick in sorted({block.first for block in blocks[:2] + blocks[-1:]} | {words.ticks - 1}):
                 drawn(browser, name, words, start, end, [number, tick])
+    for scrolled in (0, 70, 9999):
+        drawn(browser, name, words, 0, words.ticks, [len(words.lanes) - 1, 0], "190px", scrolled)

@@ -82,8 +82,9 @@ class Page:
     def __init__(self, plan, trace, fault, why="", tick=None):
         self.plan, self.groups = plan, []
         numbered = [(number, line) for number, line in enumerate(trace.splitlines(), 1) if line][1:]
-        rows = [line.split(",") for _, line in numbered]
-        self.numbers = [number for number, _ in numbered]
+        rows = [line.replace('"', "").split(",") for _, line in numbered]
+        quotes = [number for number, line in numbered if '"' in line]  # In quotes there may be ends of lines: those of the rows behind are not known.
+        self.numbers = [number if not quotes or number <= quotes[0] else 0 for number, _ in numbered]
         self.rows = [(int(r[0]), int(r[1]), r[2], (plan.numbers[r[3]], int(r[4])) if r[3] != "-" else None, plan.resources.index(r[5]) if r[5] != "-" else None) for r in rows]
         legal = len(rows) if fault is None else min(len(rows), fault[0] - 1)
         self.legal, self.later = self.rows[:legal], self.rows[legal:]
@@ -112,12 +113,12 @@ class Page:
                          tasks=[[t["name"], t["core"], t["deadline"], t["level"]] for t in plan.tasks],
                          resources=[[name, int(name in plan.shared)] for name in plan.resources],
                          fault=list(fault) if fault else None, broken=self.broken(fault), why=why,
-                         order="".join(str(row[1]) for row in self.legal), lines=self.lines([number for number, _ in numbered]),
+                         order="".join(str(row[1]) for row in self.legal), lines=self.lines(self.numbers),
                          report=[self.line(number) for number in range(len(plan.tasks))], blocks=self.groups, events=self.events())
 
     def lines(self, numbers):
         """The rows that aren't a line after the row before, with their lines."""
-        return [[row, line] for row, (before, line) in enumerate(zip([0, *numbers], numbers), 1) if line != before + 1]
+        return [[row, line] for row, (before, line) in enumerate(zip([0, *numbers], numbers), 1) if line != (before + 1 if line or before else 0)]
 
     def broken(self, fault):
         if not fault or not self.later:

@@ -2,6 +2,7 @@
 import base64
 import json
 import re
+import zlib
 from itertools import combinations
 
 from pages.judged import judge
@@ -153,6 +154,86 @@ def joined(browser, page, path, facts):
         (path.parent / "apart.html").write_text(page(data))
         browser.open(path.parent / "apart.html")
         judge({each[first], each[second]} <= set(browser.value(NAMES)), f"not joined, of two {what}: {browser.value(NAMES)}")
+
+
+# ---- what is written around the timeline
+
+CONTROLS = [["Zoom in", "Key +", "+"], ["Zoom out", "Key -", "-"], ["Whole run", "Key 0", "0"], ["Fault", "Key F", "f"], ["Next late job", "Key L", "l"], ["Longest wait", "Key W", "w"]]
+LEGEND = [["J0: job 0 runs", ["works"]], ["spins", ["works"]], ["critical section, by resource", ["#eebc4d", "#89cbf0"]], ["released, not finished", ["life"]], ["late", ["late"]],
+          ["ceiling of the core", ["ceiling"]], ["↑release", []], ["↓absolute deadline", []], ["⊤completion", []], ["resource: the first in its queue, and +n that wait", ["#89cbf0"]]]
+HELP = ("Wheel, two fingers or + and -: zoom. Drag, Page up and Page down: pan. Arrow keys: next block, next lane. Enter or click: light up a job and the jobs it waited for. "
+        "Escape: clear. F: fault. L: next late job. W: longest wait. 0: whole run.")
+HEADS = ["Task", "Core", "Finished", "Late", "Worst response, of the relative deadline", "Longest spin, of its bound", "Longest blocking, of its bound"]
+SAID = """(() => {
+  const text = (part) => part.textContent.trim().replace(/\\s+/g, ' '), all = (where) => [...document.querySelectorAll(where)], pen = document.createElement('canvas').getContext('2d');
+  const plain = (colour) => { pen.fillStyle = colour; return pen.fillStyle; }, before = document.querySelector('#why .missed');
+  return [all('[data-key]').map((one) => [text(one), one.title, one.dataset.key]), all('#legend li').map((one) => [text(one), [...one.querySelectorAll('i')].map((mark) => plain(getComputedStyle(mark).backgroundColor))]),
+    text(byId('help')), all('#report th').slice(0, 7).map(text), all('h2, summary, label, form button').map(text), all('#legend i').map((mark) => getComputedStyle(mark).backgroundImage !== 'none').indexOf(true),
+    plain(getComputedStyle(byId('verdict')).color), before && getComputedStyle(before, '::before').content, Object.fromEntries(Object.keys(palette).map((name) => [name, plain(palette[name])]))];
+})()"""
+LABELS = ["Reasons", "Timeline", "Tick", "Go", "Hide empty lanes", "Join split tasks", "Rows in sight as a table", "Report"]
+
+
+def said(browser, path, facts):
+    """The texts around the timeline, and the colours in its legend, which are those of the timeline, in the dark too."""
+    for dark in (False, True):
+        media(browser, dark=dark)
+        browser.open(path)
+        buttons, legend, help_, heads, labels, hatched, verdict, missed, colours = browser.value(SAID)
+        name = f"{path.stem}, {'dark' if dark else 'light'}"
+        judge(buttons == CONTROLS, f"{name}: buttons {buttons}")
+        judge(legend == [[text, [colours.get(mark, mark) for mark in marks]] for text, marks in LEGEND] and hatched == 1, f"{name}: legend {legend}, hatched {hatched}")
+        judge(help_ == HELP and heads == HEADS and labels == LABELS, f"{name}: texts {help_} {heads} {labels}")
+        judge(verdict == colours["late" if facts.data["fault"] else "text"], f"{name}: the colour of the verdict: {verdict}")
+        judge(missed == (None if facts.data["fault"] else '"–\u00a0"'), f"{name}: what isn't exercised: {missed}")
+    media(browser)
+
+
+def pixels(browser, left, top, width, height):
+    """The colours of a part of the screen, row by row: of a PNG of 8 bits without interlacing."""
+    clip = dict(x=left, y=top, width=width, height=height, scale=1)
+    data = base64.b64decode(browser.ask("Page.captureScreenshot", format="png", clip=clip)["data"])
+    chunks, at = {}, 8
+    while at < len(data):
+        size_, kind = int.from_bytes(data[at:at + 4], "big"), data[at + 4:at + 8]
+        chunks[kind] = chunks.get(kind, b"") + data[at + 8:at + 8 + size_]
+        at += 12 + size_
+    depth = {2: 3, 6: 4}[chunks[b"IHDR"][9]]
+    raw, wide, rows = zlib.decompress(chunks[b"IDAT"]), int.from_bytes(chunks[b"IHDR"][:4], "big") * depth, []
+    for start in range(0, len(raw), wide + 1):
+        line, above = bytearray(raw[start + 1:start + 1 + wide]), rows[-1] if rows else bytes(wide)
+        for place in range(wide):
+            a, b, c = (line[place - depth], above[place], above[place - depth]) if place >= depth else (0, above[place], 0)
+            near = min((abs(b - c), 0, a), (abs(a - c), 1, b), (abs(a + b - 2 * c), 2, c))[2]
+            line[place] = (line[place] + (0, a, b, (a + b) // 2, near)[raw[start]]) % 256
+        rows.append(line)
+    return [[f"#{line[place:place + 3].hex()}" for place in range(0, wide, depth)] for line in rows]
+
+
+def bars(browser, path, facts):
+    """A bar is as long as what was observed, of the larger of it and its bound; beyond the bound it is hatched in the colour of what is late."""
+    browser.open(path)
+    ground, runs, late_ = browser.value("['back', 'runs', 'late'].map((name) => { const pen = document.createElement('canvas').getContext('2d'); pen.fillStyle = palette[name]; return pen.fillStyle; })")
+    places = browser.value("[...document.querySelectorAll('#report .bar')].map((one) => { const { left, top, width } = one.getBoundingClientRect(); return [left, top + scrollY, width]; })")
+    pairs = [pair for line, task in zip(facts.data["report"], facts.plan.tasks) for pair in ((line[3], task["deadline"]), (line[5], line[8]), (line[7], line[9]))]
+    for (left, top, width), (observed, bound) in zip(places, pairs):
+        row = pixels(browser, left, top, width, 8)[2]
+        inner, most = width - 2, max(1, observed, bound)
+        colours = lambda start, end: set(row[round(1 + inner * start / most) + 2:round(1 + inner * end / most) - 1])
+        judge(colours(0, min(observed, bound)) <= {runs} and colours(observed, most) <= {ground}, f"{path.stem}: bar {observed} of {bound}")
+        beyond = colours(bound, observed) if observed > bound else set()
+        judge(observed <= bound or late_ in beyond and runs not in beyond, f"{path.stem}: bar {observed} of {bound}: {beyond}")
+
+
+def sharp(browser, path):
+    """On a screen of small pixels and after a change of its width the timeline is as sharp and as wide as its place."""
+    for ratio, width in ((2, 1280), (1.5, 900), (1, 1400)):
+        browser.ask("Emulation.setDeviceMetricsOverride", width=width, height=1500, deviceScaleFactor=ratio, mobile=False)
+        browser.rest()
+        if ratio == 2:
+            browser.open(path)
+        found = browser.value("(() => { const { width, height } = canvas.getBoundingClientRect(); return [canvas.width / width, canvas.height / height, xOf(view.to) - width, map.width - map.clientWidth, ...['a', 'b', 'c', 'd', 'e', 'f'].map((name) => context.getTransform()[name])]; })()")
+        judge(all(abs(one - wanted) < 0.02 for one, wanted in zip(found, (ratio, ratio, -6, 0, ratio, 0, 0, ratio, 0, 0))), f"sharp: {ratio}, {width}: {found}")
 
 
 # ---- colours, small screens, paper

@@ -1,6 +1,7 @@
 """What the script of a page has to say of each lane, tick, job, row and task, worked out from the facts without the script."""
 import re
 from collections import defaultdict, namedtuple
+from functools import cache
 
 from pages.facts import CEILING, DOES, FIRST, HOLDS, KINDS, LATE, LIFE, RUNS, WAITS
 from pages.judged import judge
@@ -52,9 +53,11 @@ class Words:
     def lanes_of(self, joined):
         groups = []
         for number, task in enumerate(self.plan.tasks):
-            last = self.plan.tasks[groups[-1][-1]] if groups else None
-            stems = [re.sub(r"_\d+$", "", each["name"]) for each in (last, task) if each]
-            if joined and last and stems[0] == stems[1] != task["name"] and (last["core"], last["deadline"]) == (task["core"], task["deadline"]):
+            tasks = [*(self.plan.tasks[each] for each in groups[-1]), task] if groups else []
+            # A name is cut to 13 letters for two digits.
+            stems = {(each["core"], each["deadline"], re.sub(r"_\d+$", "", each["name"])[:13]) for each in tasks}
+            releases = [tick for each in tasks for tick in each["releases"]]
+            if joined and len(stems) == 1 and all(re.search(r"_\d+$", each["name"]) for each in tasks) and len(set(releases)) == len(releases):
                 groups[-1].append(number)
             else:
                 groups.append([number])
@@ -76,7 +79,7 @@ class Words:
             return str(ticks)
         time = round(ticks * self.length)
         unit, size = next(((unit, size) for unit, size in UNITS.items() if time >= size), (self.data["unit"][1], 1))
-        return f"{time / size:.8g} {unit}"
+        return f"{time / size:.15g} {unit}"
 
     def tick(self, tick):
         return f"tick {tick} ({self.time(tick)})" if self.data["unit"] else f"tick {tick}"
@@ -98,6 +101,12 @@ class Words:
 
     def block(self, lane, tick):
         return next((block for look in POINTED[lane.what] for number in lane.numbers if (block := self.at(look, number, tick))), None)
+
+    @cache
+    def depths(self, task):
+        """In how many others each critical section of a task begins."""
+        holds = self.blocks[HOLDS, task]
+        return {one: sum(other.first <= one.first < other.end for other in holds[max(0, place - 64):place]) for place, one in enumerate(holds)}
 
     def lane_of(self, task):
         return next(number for number, lane in enumerate(self.lanes) if lane.what == "task" and task in lane.numbers)
@@ -135,10 +144,11 @@ class Words:
         if lane.what == "queue" and not block:
             return f"{self.tick(tick)}: nobody is in the queue of {lane.name}"
         if lane.what == "queue":
-            more = f", {block.value} more wait" if block.value else ""
+            more = f", {block.value} more wait{'s' if block.value == 1 else ''}" if block.value else ""
             return f"{self.tick(tick)}: {self.job(block)} is first in the queue of {lane.name}{more}{self.span(block)}"
         row = self.row_of.get((tick, lane.core))
-        place = f"{self.tick(tick)}, core {lane.core}" + (f", row {row}, line {self.facts.numbers[row - 1]}" if row else "")
+        place = f"{self.tick(tick)}, core {lane.core}" + (f", row {row}" if row else "")
+        place += f", line {self.facts.numbers[row - 1]}" if row and self.facts.numbers[row - 1] else ""
         if not block:
             return f"{place}: {'idle' if lane.what == 'core' else 'no job of this task'}"
         job = self.jobs.get((block.task, block.job))
@@ -187,7 +197,7 @@ class Words:
         """The verdict, the sizes, the notes and the corner."""
         rows, plan = len(self.facts.legal), self.plan
         where = f"row {self.fault[0]}" if self.broken else f"its end after {plural(rows, 'row')}" if self.fault else ""
-        verdict = f"Not a legal run: {where} violates rule {self.fault[1]}" if self.fault else f"A legal run: all {plural(rows, 'row')} obey the plan"
+        verdict = f"Not a legal run: {where} violates rule {self.fault[1]}" if self.fault else f"A legal run: {'its row obeys' if rows == 1 else f'all {rows:,} rows obey'} the plan"
         counts = [(plan.cores, "core"), (len(plan.tasks), "task"), (len(plan.resources), "resource"), (plan.ticks, "tick")]
         size = f"{', '.join(plural(*one) for one in counts)}{', ' + self.time(plan.ticks) if self.data['unit'] else ''}; "
         size += f"{plural(len(self.jobs), 'job')}, {len(self.late)} late; {plural(rows, 'row')}{' before the fault' if self.fault else ''}"
@@ -216,6 +226,6 @@ class Words:
         for number, (tick, core, kind, job, res) in enumerate(self.facts.legal, 1):
             if int(start) <= tick < stop:
                 named = f"job {job[1]} of {self.plan.tasks[job[0]]['name']}" if job else "-"
-                found.append([tick, *([self.time(tick)] if unit else []), core, kind, named, "-" if res is None else self.plan.resources[res], number, self.facts.numbers[number - 1]])
+                found.append([tick, *([self.time(tick)] if unit else []), core, kind, named, "-" if res is None else self.plan.resources[res], number, self.facts.numbers[number - 1] or "-"])
         head = ["Tick", *(["Time"] if unit else []), "Core", "Kind", "Job", "Resource", "Row", "Line"]
         return [head, *([str(cell) for cell in row] for row in sorted(found, key=lambda row: (row[0], row[2 if unit else 1])))]

@@ -27,7 +27,8 @@ def lanes():
 
 
 class Figures:
-    """About how long each crate takes: as was measured on one machine, or by its size; corrected by what this run has shown."""
+    """About how long each crate takes: as was measured on one machine, or by its size; corrected by
+    what this run has shown."""
 
     def __init__(self, names):
         self.measured = {name: (int(seconds), int(jobs)) for name, seconds, jobs in (line.split() for line in text_of(FIGURES).splitlines() if not line.startswith("#"))}
@@ -41,14 +42,16 @@ class Figures:
         return self.measured[name]
 
     def behind(self, left):
-        """The longest chain of seconds that begins with each crate, where left has what is left of each."""
+        """The longest chain of seconds that begins with each crate, where left has what is left of
+        each."""
         found = {}
         for name in reversed(self.names):
             found[name] = left.get(name, 0) + max((found[it] for it in self.names if name in USES[it]), default=0)
         return found
 
     def rest(self, left, processors):
-        """About how many seconds are left: the work shared by all processors, or the longest chain."""
+        """About how many seconds are left: the work shared by all processors, or the longest
+        chain."""
         work = sum(seconds * self.of(name)[1] for name, seconds in left.items()) / processors
         return max([work, *self.behind(left).values()]) * (self.found / self.due if self.due else 1)
 
@@ -93,8 +96,9 @@ class Proof:
 
 
 def chosen(left, done, free, behind):
-    """Which crates are begun now, each with how many jobs. The one that the longest chain waits for comes first, and gets two processors if there are four;
-    a program, which has few functions over many libraries, gets one: it takes longer with more jobs, since each loads the libraries."""
+    """Which crates are begun now, each with how many jobs. The one that the longest chain waits for
+    comes first, and gets two processors if there are four; a program, which has few functions over
+    many libraries, gets one: it takes longer with more jobs, since each loads the libraries."""
     ready = sorted((it for it in left if all(used in done for used in below(it))), key=lambda it: -behind[it])
     for number, name in enumerate(ready):
         if free > 0:
@@ -143,7 +147,8 @@ class Build:
             _running[name] = Proof(name, jobs, folder)
 
     def end(self, proof):
-        """Takes what an ended proof made; where it failed, says which and where its log is, and stops."""
+        """Takes what an ended proof made; where it failed, says which and where its log is, and
+        stops."""
         log = proof.kept_log()
         del _running[proof.name]
         is_well = rooms.finished(proof.name, self.sums, proof.ran.returncode, f"{proof.seconds():.0f} {proof.jobs}")
@@ -177,7 +182,8 @@ def stop(number, _):
 
 
 def build(whom, names, sums):
-    """Proves and builds what these crates stand on, and them; ends the process where that can't be done."""
+    """Proves and builds what these crates stand on, and them; ends the process where that can't be
+    done."""
     if shutil.which("rt") is None:
         print(f"{whom}: needs rt, the command of the Rattle kit, on the path", file=sys.stderr)
         sys.exit(FAILED)

@@ -1,4 +1,5 @@
-"""The crates of the repository, the sums of their sources, and the notes that say of which sources what was built is made."""
+"""The crates of the repository, the sums of their sources, and the notes that say of which sources
+what was built is made."""
 import functools
 import hashlib
 import os
@@ -76,7 +77,8 @@ def sums_of(names, top=TOP):
 
 
 def made_of(name, top=TOP):
-    """What was built: the file that changes whenever it is built anew, and the note beside it. A library's note goes when the library goes."""
+    """What was built: the file that changes whenever it is built anew, and the note beside it. A
+    library's note goes when the library goes."""
     out = f"{top}/crates/{name}/out"
     if is_static(name):
         return f"{out}/lib{name}.a", f"{out}/lib{name}.a.proved"
@@ -92,7 +94,8 @@ def digest(path):
 
 
 def is_here(name, sums, top=TOP):
-    """Whether the crate stands there as it was built of these sources, by this kit if it is at hand."""
+    """Whether the crate stands there as it was built of these sources, by this kit if it is at
+    hand."""
     made, note = made_of(name, top)
     said = text_of(note).splitlines()
     return len(said) == 4 and said[0] == sums[name] and kit() in (None, said[1]) and said[2] == digest(made)
@@ -105,7 +108,8 @@ def note_down(name, sums, took, top=TOP):
 
 
 def took(name):
-    """How many seconds the crate took here, and with how many jobs; nothing where that isn't known."""
+    """How many seconds the crate took here, and with how many jobs; nothing where that isn't
+    known."""
     return "".join(text_of(made_of(name)[1]).splitlines()[3:])
 
 

@@ -1,4 +1,5 @@
-"""Must-fail edits: a file of a crate, and pairs of a text that stands once in it and the text that takes its place."""
+"""Must-fail edits: a file of a crate, and pairs of a text that stands once in it and the text that
+takes its place."""
 import glob
 import os
 

@@ -1,4 +1,5 @@
-"""The functions of the crates: the text of each, its clauses, the definitions that these name, and what it calls."""
+"""The functions of the crates: the text of each, its clauses, the definitions that these name, and
+what it calls."""
 import re
 from pathlib import Path
 
@@ -23,7 +24,8 @@ def named(clauses):
 
 
 class Function:
-    """A function of a crate: `owner` is the type or trait that has it, `trait` the one that the owner implements."""
+    """A function of a crate: `owner` is the type or trait that has it, `trait` the one that the
+    owner implements."""
 
     def __init__(self, source, head, block, text):
         self.crate, self.file, self.module = source.crate, source.file, source.module
@@ -113,7 +115,8 @@ def sources():
 
 
 def passed_on():
-    """What each file Common passes on: its module and a name there, to the module and name of the definition."""
+    """What each file Common passes on: its module and a name there, to the module and name of the
+    definition."""
     for path in Path(TOP).glob("crates/*/specs/Common.antt"):
         for found in USE.finditer(path.read_text()):
             for name in filter(None, (it.strip() for it in (found.group(3) or "").split(","))):
@@ -121,8 +124,9 @@ def passed_on():
 
 
 class Calls:
-    """Which functions a function may call, by the names before its brackets and the types that its file names. If it
-    names a type of its crate, it may call all that the type implements of traits."""
+    """Which functions a function may call, by the names before its brackets and the types that its
+    file names. If it names a type of its crate, it may call all that the type implements of
+    traits."""
 
     def __init__(self, files):
         self.words = {it.place(): set(WORD.findall(it.text)) for it in files}
@@ -145,7 +149,8 @@ class Calls:
                     yield it
 
     def fits(self, it, caller, dot, before):
-        """Whether a call after a dot, or after a path that ends in a name, may be one of this function."""
+        """Whether a call after a dot, or after a path that ends in a name, may be one of this
+        function."""
         if before == "Self" or dot == "self.":
             return it.owner == caller.owner and it.crate == caller.crate
         if before[:1].isupper():

@@ -1,4 +1,5 @@
-"""The promises of README and docs/PROVED.md, and the functions, types and definitions that their columns name."""
+"""The promises of README and docs/PROVED.md, and the functions, types and definitions that their
+columns name."""
 import re
 from pathlib import Path
 
@@ -49,7 +50,8 @@ class Names:
         return function.clauses or next(iter(same), [])
 
     def definitions(self, promise):
-        """The definitions of our crates that the clauses of a promise name, each as its module and name."""
+        """The definitions of our crates that the clauses of a promise name, each as its module and
+        name."""
         found = {self.specs[name] for name in promise.named if name in self.specs}
         stated = [(it, promise.chosen(self, it)) for it in promise.functions]
         for it, clauses in [*stated, *((file, file.invariants[name]) for file, name in promise.invariants)]:
@@ -57,20 +59,23 @@ class Names:
         return {item for item in found if not item[1].endswith("Model")}
 
     def cited(self, it, words):
-        """The definitions of our crates that these words in the file of a function name. Types of the code are none."""
+        """The definitions of our crates that these words in the file of a function name. Types of
+        the code are none."""
         names = self.file_of[it.place()].names
         found = {self.passed.get(names[word], names[word]) for word in words if word in names}
         return {item for item in found if item[0][0] in LINES and "declared" not in item[0][1].split(".")}
 
     def fitting(self, parts, crates):
-        """The functions of a path's name: each part before it is the crate, the module or the type."""
+        """The functions of a path's name: each part before it is the crate, the module or the
+        type."""
         same = [it for it in self.calls.named.get(parts[-1], []) if it.crate in crates]
         near = [it for it in same if all(part in (it.crate, it.owner, it.trait, *it.module) for part in parts[:-1])]
         near = near if len(parts) > 1 else [it for it in near if it.owner is None]
         return [it for it in near if it.is_public] or near
 
     def members(self, parts, crates):
-        """The public functions of a type or trait, or of a module; none where the path names neither."""
+        """The public functions of a type or trait, or of a module; none where the path names
+        neither."""
         name, before = parts[-1], parts[:-1]
         if name in self.types:
             own = [it for it in self.all if it.owner == name]
@@ -96,7 +101,8 @@ class Promise:
         self.kept = set()  # functions that are named one by one
 
     def chosen(self, names, function):
-        """The clauses of a function that the column names, or those with a field that it names; or else all."""
+        """The clauses of a function that the column names, or those with a field that it names; or
+        else all."""
         clauses = names.contract(function)
         parts = self.said - {name for name, _ in clauses}
         named = [it for it in clauses if it[0] in self.said]
@@ -144,7 +150,8 @@ class Promise:
             self.lost.append(token)
 
     def of_owner(self, names, parts):
-        """A method that is named without its type: of the type named last, or of those of the first column."""
+        """A method that is named without its type: of the type named last, or of those of the first
+        column."""
         owners = self.owners[-1:] or [it for it in TOKEN.findall(self.text) if it in names.types]
         return [it for owner in owners for it in names.fitting([owner, *parts], self.crates)] if len(parts) == 1 else []
 
@@ -186,7 +193,8 @@ def resolve(promise, names, last):
 
 
 def of_readme(names):
-    """The rows of README on what is proved: for a command the engine that does it, for a program all that it calls."""
+    """The rows of README on what is proved: for a command the engine that does it, for a program
+    all that it calls."""
     for kind, text in ROW.findall(text_of(f"{TOP}/README.md")):
         if kind == "proved":
             words = TOKEN.findall(text)

@@ -1,4 +1,5 @@
-"""Rooms: folders in which one crate is proved, apart from the checkout; and what other checkouts of this user have proved."""
+"""Rooms: folders in which one crate is proved, apart from the checkout; and what other checkouts of
+this user have proved."""
 import contextlib
 import fcntl
 import os
@@ -11,7 +12,8 @@ CHECKOUTS = f"{os.environ.get('XDG_CACHE_HOME') or os.path.expanduser('~/.cache'
 
 
 def linked(one, other):
-    """Gives a file a second name where it is only ever replaced, and never changed; else, or where that can't be, it is copied."""
+    """Gives a file a second name where it is only ever replaced, and never changed; else, or where
+    that can't be, it is copied."""
     if "/rlib/" in one or one.endswith(".oantt"):
         with contextlib.suppress(OSError):
             return os.link(one, other)
@@ -25,7 +27,8 @@ def copy(one, other, how=shutil.copy2):
 
 @contextlib.contextmanager
 def locked(path, told=None):
-    """Waits until nobody else holds this file or folder, as `rt` holds the folder of a crate in which it works."""
+    """Waits until nobody else holds this file or folder, as `rt` holds the folder of a crate in
+    which it works."""
     with contextlib.ExitStack() as held:
         descriptor = os.open(path, os.O_RDONLY)
         held.callback(os.close, descriptor)
@@ -93,7 +96,8 @@ def is_taken(name, sums):
 
 
 def prepared(name, sums):
-    """Makes the room of a crate, and gives the crate's folder in it; or None where the sources are no longer those of the sums."""
+    """Makes the room of a crate, and gives the crate's folder in it; or None where the sources are
+    no longer those of the sums."""
     room, there = f"{ROOMS}/{name}", [*below(name), name]
     os.makedirs(room)
     shutil.copy2(f"{TOP}/HANDLES", room)

@@ -1,4 +1,5 @@
-"""What would fail without a promise: the edits of its code, the tests and programs that call it, worked examples."""
+"""What would fail without a promise: the edits of its code, the tests and programs that call it,
+worked examples."""
 import re
 from pathlib import Path
 
@@ -9,7 +10,7 @@ CASE = re.compile(r"^(\.ci/\w+|docs/\S+?)(?:: (.*))?$")
 WORKED = re.compile(r"Examples|Broken|Handover")  # files of worked runs and boards
 FEW = 6  # a definition that more laws and examples cite says little of each
 README = "README"
-OF_SOURCES = {"build", "more", "steps", "traceability", "trusted", "unused"}  # scripts of the gate that run no program
+OF_SOURCES = {"build", "covered", "more", "steps", "traceability", "trusted", "unused"}  # scripts of the gate that run no program
 
 
 class Edit:
@@ -61,8 +62,8 @@ class Uses:
         return {*own, *(called for it in own for called in self.names.calls.of(it))}
 
     def inside(self, promise):
-        """The code of a promise: its functions, what makes values of their types, and what these call in their crates,
-        but nothing that another promise names."""
+        """The code of a promise: its functions, what makes values of their types, and what these
+        call in their crates, but nothing that another promise names."""
         if promise.number not in self.kept:
             types = {(it.crate, it.owner) for it in promise.functions}
             crates = {crate for crate, _ in types}
@@ -73,7 +74,8 @@ class Uses:
         return self.kept[promise.number]
 
     def others_of(self, promise):
-        """The numbers of other promises on functions that this code calls; for a line of README, on its functions."""
+        """The numbers of other promises on functions that this code calls; for a line of README, on
+        its functions."""
         wanted = set(promise.functions)
         if not promise.section.startswith(README):
             wanted = {called for it in self.inside(promise) for called in self.names.calls.of(it)} - wanted
@@ -89,7 +91,8 @@ class Uses:
         return [edit for edit in self.edits if edit not in reached]
 
     def tests_of(self, promise):
-        """The unit tests that call a function, scripts that call one for C, cases of covered.txt that read a text."""
+        """The unit tests that call a function, scripts that call one for C, cases of covered.txt
+        that read a text."""
         found = [(test.crate, test.name) for test, called in self.tests if called & set(promise.functions)]
         for it in (it for it in promise.functions if is_static(it.crate)):
             call = re.compile(rf"\b{it.name}\(")
@@ -108,7 +111,8 @@ class Uses:
         return {program: [it for it, text in self.gate.items() if runs(text, program)] for program in self.programs}
 
     def examples_of(self, promise):
-        """For a law the worked runs that cite its definitions, its own among them; only those that few cite, if there are such."""
+        """For a law the worked runs that cite its definitions, its own among them; only those that
+        few cite, if there are such."""
         rare, every = [], []
         for item in sorted(self.names.definitions(promise)) if promise.is_law() else ():
             citing = [(it, is_worked) for it, cited, is_worked in self.laws if item in cited]

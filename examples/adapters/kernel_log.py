@@ -1,24 +1,40 @@
 #!/usr/bin/env python3
-"""Simulates a kernel that schedules by the Multiprocessor Stack Resource Policy, and writes its log.
+"""Simulates a kernel under the Multiprocessor Stack Resource Policy, and writes its log.
 
-usage: kernel_log.py [--tick NS] [--time NS] [--seed N] [--operation NS] [--switch NS] [--jitter NS] [--handover NS]
-                     [--offsets NS] [--stretch N] [--bug NAME] PLAN > LOG
+usage: kernel_log.py [--tick NS] [--time NS] [--seed N] [--operation NS] [--switch NS]
+                     [--jitter NS] [--handover NS] [--offsets NS] [--stretch N] [--bug NAME]
+                     PLAN > LOG
 
-The plan is a text that msrp reads; a tick of it lasts --tick ns. The log begins with 'msrp-log,1,CORES' and has a record
-for each event: ns,core,event,task,job,res,num,seq. Jobs take 40 to 100 percent of their work, and releases come up to
---jitter ns late. The kernel reacts to a freed resource after --handover ns, and --switch ns of each switch are work of
-the next job. --stretch makes sections longer, --offsets moves each task by up to so much. A bug begins after a third of
-the time. Once it has done something wrong that the log shows, the kernel writes the number of the record that shows it
-first, and its rule in docs/LOG.md, to standard error.
+PLAN is a plan of periodic tasks, as msrp reads it; one of its ticks lasts --tick ns. The log begins
+with 'msrp-log,1,CORES', and has a record ns,core,event,task,job,res,num,seq for each event.
 
-Bugs: priority (the waiting job of the earliest deadline acquires), lifo (the last one), two (a request acquires what is
-held), preempt (a job that waits for a global resource or holds one is preempted), early (a job starts before its
-release), resume (no switch after an unlock), lost (nobody acquires what is freed), ceiling (an unlock doesn't lower
-the ceiling)."""
+A job takes 40 to 100 percent of its work, and its release is up to --jitter ns late. The kernel
+reacts to a freed resource after --handover ns. A switch adds --switch ns to the work of the next
+job. --stretch makes critical sections longer, and --offsets delays each task by up to this time.
+
+A bug begins after a third of the time. Once the log shows it, the kernel reports on standard error
+which record shows it first, and its rule in docs/LOG.md. The bugs:
+
+  priority  of the waiting jobs, the one with the earliest deadline acquires the resource
+  lifo      of the waiting jobs, the last one acquires the resource
+  two       a request acquires a resource that another job holds
+  preempt   a job that waits for a global resource or holds one is preempted
+  early     a job starts before its release
+  resume    the core doesn't switch after an unlock
+  lost      no job acquires a resource that was freed
+  ceiling   an unlock doesn't lower the ceiling
+"""
 import argparse
 import heapq
 import random
+import signal
 import sys
+
+BUGS = ("priority", "lifo", "two", "preempt", "early", "resume", "lost", "ceiling")
+
+
+def fail(text):
+    sys.exit(f"kernel_log.py: {text}")
 
 
 class Task:
@@ -44,22 +60,23 @@ class Core:
 
 class Plan:
     def __init__(self, path, tick, stretch):
-        self.tasks, self.cores, depth = [], 0, 0
-        for line in open(path, encoding="utf-8-sig"):
-            f = line.strip().split(",")
-            if f[0] == "cores":
-                self.cores = int(f[1])
-            elif f[0] == "task":
-                self.tasks.append(Task(len(self.tasks), f[1], int(f[2]), *[int(n) * tick for n in f[3:6]]))
-                depth = 0
-            elif f[0] == "op" and f[1] == "run":
-                self.tasks[-1].work[-1] += int(f[2]) * tick * (stretch if depth else 1)
-            elif f[0] == "op":
-                self.tasks[-1].steps.append((f[1], f[2]))
-                self.tasks[-1].work.append(0)
-                depth += 1 if f[1] == "lock" else -1
-            elif f[0] == "listed":
-                sys.exit(f"{path}: listed tasks aren't simulated")
+        self.tasks, self.cores, self.depth = [], 0, 0
+        try:
+            with open(path, encoding="utf-8-sig") as plan:
+                lines = plan.read().splitlines()
+        except OSError as wrong:
+            fail(f"cannot read {path}: {wrong.strerror}")
+        except UnicodeDecodeError:
+            fail(f"{path}: the text isn't UTF-8")
+        if lines[:1] != ["msrp,1"]:
+            fail(f"{path}: a plan of periodic tasks begins with msrp,1")
+        for number, line in enumerate(lines, 1):
+            try:
+                self.read(line.split(","), tick, stretch)
+            except (ValueError, IndexError, TypeError):
+                fail(f"{path}:{number}: [{line}] isn't a record of a plan; msrp_view --why says more")
+        if any(task.core >= self.cores for task in self.tasks):
+            fail(f"{path}: a task has a core that the plan doesn't have")
         deadlines = {task.deadline for task in self.tasks}
         for task in self.tasks:
             task.level = 1 + sum(longer > task.deadline for longer in deadlines)
@@ -70,6 +87,21 @@ class Plan:
         self.shared = {res for res, its in users.items() if len({task.core for task in its}) > 1}
         self.ceiling = {res: max(task.level for task in its) for res, its in users.items()}
         self.top = {c: max((t.level for t in self.tasks if t.core == c), default=0) for c in range(self.cores)}
+
+
+    def read(self, f, tick, stretch):
+        """Adds what a record of the plan says."""
+        if f[0] == "cores":
+            self.cores = int(f[1])
+        elif f[0] == "task":
+            self.tasks.append(Task(len(self.tasks), f[1], int(f[2]), *[int(n) * tick for n in f[3:6]]))
+            self.depth = 0
+        elif f[0] == "op" and f[1] == "run":
+            self.tasks[-1].work[-1] += int(f[2]) * tick * (stretch if self.depth else 1)
+        elif f[0] == "op":
+            self.tasks[-1].steps.append((f[1], f[2]))
+            self.tasks[-1].work.append(0)
+            self.depth += 1 if f[1] == "lock" else -1
 
 
 class Kernel:
@@ -89,11 +121,11 @@ class Kernel:
 
     # ---- the log, and what it shows
     def show(self, rule):
-        """The record that is written next shows that the rule is violated."""
+        """The next record shows that the rule is violated."""
         self.shown = self.shown or (self.records + 1, rule)
 
     def owe(self, what, is_owed, wait, rule):
-        """From now on, unless it was so before, somebody should have done something within this time."""
+        """From now on, if not before, somebody must do something within this time."""
         if is_owed:
             self.owes.setdefault(what, (self.now + wait, rule))
         else:
@@ -146,7 +178,7 @@ class Kernel:
         job = self.choice(core, self.wrong_ceiling(core))
         if job is not core.run:
             self.switch(core, job, due)
-        # until the core runs another, it should run the one that was due
+        # the core should run this job until it does
         self.owe(core, core.run is not self.choice(core, self.ceiling(core)), self.o.handover, "E1")
 
     def switch(self, core, job, due):
@@ -193,7 +225,7 @@ class Kernel:
         self.at(core.busy, "stay" if stays else "look", core)
 
     def stay(self, core):
-        """The core should switch now, and doesn't."""
+        """The core should switch now, but doesn't."""
         self.owe(core, core.run is not self.choice(core, self.ceiling(core)), self.o.handover, "E1")
 
     def look(self, core):
@@ -246,7 +278,7 @@ class Kernel:
         job = Job(task, k, task.offset + k * task.period + task.deadline, [w * part // 100 for w in task.work])
         self.at(task.offset + (k + 1) * task.period + self.random.randint(0, self.o.jitter), "release", task, k + 1)
         if self.bug("early") and not core.run and self.shown is None:
-            # its timer fires early: it is started, and then released
+            # its timer fires early: it starts, and is released afterwards
             self.show("E5")
             self.log(core, "switch", job)
         self.log(core, "release", job, "", job.due)
@@ -271,10 +303,12 @@ class Kernel:
 
 
 if __name__ == "__main__":
+    signal.signal(signal.SIGPIPE, signal.SIG_DFL)  # head may close the pipe
     words = argparse.ArgumentParser(description=__doc__, formatter_class=argparse.RawDescriptionHelpFormatter)
-    for name, number in [("tick", 10_000), ("time", 20_000_000), ("seed", 1), ("operation", 250), ("switch", 1800), ("jitter", 4000), ("handover", 120), ("offsets", 0), ("stretch", 1)]:
+    defaults = {"tick": 10_000, "time": 20_000_000, "seed": 1, "operation": 250, "switch": 1800, "jitter": 4000, "handover": 120, "offsets": 0, "stretch": 1}
+    for name, number in defaults.items():
         words.add_argument("--" + name, type=int, default=number)
-    words.add_argument("--bug", default="")
+    words.add_argument("--bug", choices=BUGS)
     words.add_argument("plan")
     given = words.parse_args()
     Kernel(Plan(given.plan, given.tick, given.stretch), given).simulate()

@@ -1,12 +1,17 @@
 #!/usr/bin/env python3
-"""Makes a plan of a spreadsheet's export, and tells on standard error each name and each time that it had to change.
+"""Makes a plan from the export of a spreadsheet. Reports on standard error each name and each time
+that it had to change.
 
 usage: sheet.py --tick 100us --for 200ms SHEET > PLAN
 
-The sheet has a line of heads: task, core, period, deadline, offset, does. What a task does is a list, as "run 0.3 ms, lock can, run 100us, unlock can".
-Other columns are left out. A head may have a unit, as "period (ms)", for times without one; an empty offset is 0, and an empty deadline the period.
-Fields may stand apart by commas, semicolons or tabs, in quotes or not, in UTF-8, UTF-16 or Windows-1252; capitals and blanks don't matter; 0,3 ms is 0.3 ms.
-Work is rounded up, since it is a worst case; periods, deadlines and offsets are rounded down."""
+The first line of the sheet has the column names: task, core, period, deadline, offset, does. The
+column `does` lists what a task does, as in "run 0.3 ms, lock can, run 100us, unlock can". Other
+columns are ignored. A column name may have a unit, as in "period (ms)", for times without one. An
+empty offset is 0, and an empty deadline is the period.
+
+Fields are separated by commas, semicolons or tabs, quoted or not, in UTF-8, UTF-16 or Windows-1252.
+Capitals and blanks don't matter, and 0,3 ms is 0.3 ms. Work is rounded up, since it is a worst
+case; periods, deadlines and offsets are rounded down."""
 import argparse
 import csv
 import io
@@ -49,13 +54,14 @@ def text_of(path):
 
 
 def head_of(field):
-    """A head, and the unit that it has for its column."""
+    """The name of a column, and its unit."""
     found = HEAD.fullmatch(field)
     return (found[1].lower(), found[2]) if found else (field.lower(), "")
 
 
 def lines_of(path):
-    """The lines of the sheet that have a task, each as a record by the heads, with its number. The units of the columns stand under unit."""
+    """The lines of the sheet that have a task, each with its number, as a dictionary by column names.
+    Its entry `unit` has the units of the columns."""
     text = text_of(path)
     first = text.lstrip().split("\n", 1)[0]
     reader, heads = csv.reader(io.StringIO(text, newline=""), delimiter=max(",;\t", key=first.count)), None
@@ -67,7 +73,9 @@ def lines_of(path):
             units = dict(map(head_of, fields))
             heads = [head_of(field)[0] for field in fields]
             if missing := [head for head in HEADS if head not in heads]:
-                fail(f"the line of heads lacks {', '.join(missing)}; it has {', '.join(filter(None, heads))}")
+                fail(f"{path}: the line of column names lacks {', '.join(missing)}; it has {', '.join(filter(None, heads))}")
+    if heads is None:
+        fail(f"{path}: the sheet is empty; its first line must have the columns {', '.join(HEADS)}")
 
 
 class Sheet:
@@ -75,7 +83,8 @@ class Sheet:
         self.tick, self.names = tick, {"task": {}, "resource": {}}
 
     def name(self, kind, text):
-        """The plan's name for a task or a resource: small letters, digits and _, at most 16, and of nobody else."""
+        """The name of a task or a resource in the plan: at most 16 lower case letters, digits and _,
+        and unique."""
         known, key = self.names[kind], text.lower()
         if key not in known:
             plain = re.sub(r"[^a-z0-9_]", "_", key)

@@ -1,5 +1,5 @@
 #!/usr/bin/env python3
-"""Converts what a tracer wrote into a log that msrp_log judges.
+"""Converts what a tracer wrote into a log that msrp_log judges, or orders the records of such a log.
 
 usage: trace_log.py FORM [--map MAP] [--offset CPU:+TIME].. [--skew TIME] [--unit ns|us] SYSTEM [TRACE] > LOG
 
@@ -11,6 +11,7 @@ FORM is one of:
   zephyr     babeltrace2, of Zephyr: thread_switched_in, thread_ready, thread_sleep_enter, .., and marks
   litmus     EVENT PID/JOB on CPU N TIME [deadline=TIME], with the events of LITMUS^RT's sched_trace
   freertos   CSV with the columns time,core,event,task,object and perhaps seq: FreeRTOS's trace hooks
+  log        a log as msrp_log reads it, of cores whose clocks differ: it is only put in order
 
 A mark is a text in the trace, such as `msrp:lock bus`: msrp:EVENT RESOURCE [TICKET], or msrp:release TASK
 [DEADLINE]. The log begins at the mark `msrp:boot`, if there is one, and each core stops at `msrp:stop`. A job is
@@ -18,7 +19,8 @@ released where its thread wakes up, and ends where the thread sleeps, unless the
 
 MAP is CSV: thread,NAME or PID,TASK; cpu,CPU,CORE; action,NUMBER,EVENT,RESOURCE (of LITMUS^RT). Without it threads have
 the names of their tasks, and CPUs the numbers of their cores. --offset adds a time to those of a CPU, such as 1:+7us.
---skew is how much the clocks of two CPUs may still differ. --unit is that of times without one."""
+--skew is how much the clocks of two CPUs may still differ: within it, records are ordered by what one shows of another.
+--unit is that of times without one."""
 import argparse
 import csv
 import re
@@ -28,6 +30,7 @@ from collections import Counter, deque
 from typing import NamedTuple
 
 UNITS = {"ns": 1, "us": 1000, "ms": 1_000_000, "s": 1_000_000_000}
+DAY = 86_400 * UNITS["s"]
 MARK = re.compile(r"msrp:([a-z]+)(?: ([\w.-]+))?(?: (\d+))?")
 OF_ALL = ("boot", "stop")
 IDLE = re.compile(r"0|swapper.*|<idle>|idle.*", re.I)
@@ -45,7 +48,7 @@ class Seen(NamedTuple):
 
 
 class Record(NamedTuple):
-    """A record of the log, without its number."""
+    """A record of the log."""
     ns: int
     core: int
     event: str
@@ -53,6 +56,7 @@ class Record(NamedTuple):
     job: object = ""
     res: str = ""
     num: object = ""
+    seq: object = ""
 
 
 def fail(text):
@@ -66,7 +70,7 @@ def records_of(path):
 
 def opened(path):
     try:
-        return sys.stdin if path == "-" else open(path, newline="", encoding="utf-8-sig", errors="replace")
+        return open(sys.stdin.fileno() if path == "-" else path, newline="", encoding="utf-8-sig", errors="replace")
     except OSError as lacking:
         fail(f"{path}: {lacking.strerror}")
 
@@ -96,9 +100,10 @@ def mark_of(text, ns, cpu, thread):
 
 LINE = re.compile(r"\s*(?P<comm>.+?)[-\s]\s*(?:\d+/)?(?P<pid>\d+)\s+(?:\([\s\d-]+\)\s+)?\[(?P<cpu>\d+)\]\s+"
                   r"(?:[^\s:]+\s+)?(?P<time>\d+\.\d+):\s+(?:[\w-]+:)?(?P<event>\w+):\s*(?P<text>.*)")
+# What follows a PID shows where a name ends that has a colon itself.
 SWITCH = re.compile(r"(?:prev_comm=)?(.*?)(?: prev_pid=|:)(\d+) (?:prev_prio=\d+|\[\d+\]) (?:prev_state=)?(\S+) ==> "
-                    r"(?:next_comm=)?(.*?)(?: next_pid=|:)(\d+)")
-WAKEUP = re.compile(r"(?:comm=)?(.*?)(?: pid=|:)(\d+)")
+                    r"(?:next_comm=)?(.*?)(?: next_pid=|:)(\d+) (?:next_prio=|\[)")
+WAKEUP = re.compile(r"(?:comm=)?(.*?)(?: pid=|:)(\d+) (?:prio=|\[)")
 LOST = re.compile(r"CPU:(\d+) \[(?:LOST )?(\d*) ?EVENTS|\[(\d+)\].*RECORD_LOST lost (\d+)")
 
 
@@ -106,7 +111,7 @@ def read_linux(lines, _):
     """Lines of trace-cmd report, of tracefs, and of perf script."""
     for line in lines:
         if lost := LOST.search(line):
-            yield Seen(None, int(lost[1] or lost[3]), "lost", num=lost[2] or lost[4])
+            yield Seen(None, int(lost[1] or lost[3]), "lost", num=lost[2] or lost[4] or "")
         elif found := LINE.match(line):
             yield from of_linux(time_of(found["time"], "s"), int(found["cpu"]), found)
 
@@ -130,7 +135,7 @@ def switch(ns, cpu, before, is_ready, after):
 
 CLOCK = r"\[(?:[\d-]+ )?(?:(\d+):(\d+):)?(\d+\.\d+)\]"
 BABELTRACE = re.compile(CLOCK + r" (?:\([^)]*\) )?(?:[\w.-]+ )?(?:\w+:)?(\w+): (.*)")
-FIELD = re.compile(r'(\w+) = (?:"([^"]*)"|\( "?([^":]*?)"? : container = \d+ \)|(-?\w+))')
+FIELD = re.compile(r'(\w+) = (?:"([^"]*)"|\( "?([^:]*?)"? : container = \d+ \)|(-?\w+))')
 # The states of a thread that was preempted: newer kernels have one above all others.
 READY = ("0", "256", "TASK_RUNNING", "TASK_REPORT_MAX", "TASK_STATE_MAX")
 # A stream's name ends in its CPU.
@@ -139,18 +144,23 @@ DISCARDED = re.compile(r".* between " + CLOCK + r'.* within stream "[^"]*?(\d*)"
 
 def read_babeltrace(lines, of_event):
     """Lines of babeltrace2. It says on standard error what was lost, and since when."""
+    ns = None
     for line in lines:
         if lost := DISCARDED.match(line):
-            yield Seen(clock(lost), int(lost[4] or 0), "lost")
+            ns = clock(lost, ns)
+            yield Seen(ns, int(lost[4] or 0), "lost")
         elif found := BABELTRACE.match(line):
+            ns = clock(found, ns)
             fields = {name: text or word or number for name, text, word, number in FIELD.findall(found[5])}
             cpu = int(fields.get("cpu_id", fields.get("cpu", 0)))
-            yield from of_event(clock(found), cpu, found[4], fields, found[5])
+            yield from of_event(ns, cpu, found[4], fields, found[5])
 
 
-def clock(found):
+def clock(found, last):
+    """The time of a line. A clock of hours begins anew at midnight: it is within half a day of the last line's."""
     minutes = 60 * int(found[1] or 0) + int(found[2] or 0)
-    return time_of(found[3], "s") + minutes * 60 * UNITS["s"]
+    ns = time_of(found[3], "s") + minutes * 60 * UNITS["s"]
+    return ns if last is None or not found[1] else ns + (last - ns + DAY // 2) // DAY * DAY
 
 
 def of_lttng(ns, cpu, event, fields, text):
@@ -219,6 +229,21 @@ def read_freertos(lines, options):
         yield Seen(ns, cpu, HOOKS.get(row["event"], row["event"]), thread, row.get("object") or "")
 
 
+def read_log(lines, options):
+    """The records of a log, with the offsets of their clocks, in the order of their times; a core's own stay in theirs."""
+    rows, latest, found = (row for row in csv.reader(lines) if row), Counter(), []
+    if next(rows, None) != ["msrp-log", "1", str(options.names.cores)]:
+        raise ValueError(f"a log of this system begins with msrp-log,1,{options.names.cores}")
+    for row in rows:
+        if len(row) != 8:
+            raise ValueError("a record has 8 fields")
+        record = moved(Record(int(row[0]), int(row[1]), *row[2:]), options.offsets.get(int(row[1]), 0))
+        latest[record.core] = max(latest[record.core], record.ns)
+        found.append((latest[record.core], record))
+    options.shows_losses = any(record.seq for _, record in found)
+    return [record for _, record in sorted(found, key=lambda pair: pair[0])]
+
+
 FORMS = {
     "trace-cmd": read_linux,
     "perf": read_linux,
@@ -250,6 +275,8 @@ class Names:
             self.actions = {row[1]: (row[2], row[3]) for row in rows if row[0] == "action"}
         except (IndexError, StopIteration, ValueError) as wrong:
             fail(f"{system}, {of_map or 'no map'}: a record lacks something: {wrong}")
+        for task in sorted(set(self.threads.values()) - set(self.core)):
+            fail(f"{of_map}: the system has no task {task}")
         self.name_of = {}
 
     def task(self, thread):
@@ -272,7 +299,7 @@ class Log:
         if core in range(self.names.cores):
             return core
         if task and seen.event == "switch":
-            raise ValueError(f"{task} runs on CPU {seen.cpu}, which is no core; see --map")
+            fail(f"{task} runs on CPU {seen.cpu}, which is no core; see --map")
         return self.names.core.get(task)
 
     def records(self, seen):
@@ -309,20 +336,25 @@ class Log:
         return Record(seen.ns, core, seen.event, task, job, seen.res, seen.num)
 
 
+def moved(one, offset):
+    """With its time and, if it tells one, its absolute deadline by a clock with this offset."""
+    told = one.event == "release" and one.num
+    return one._replace(ns=one.ns + offset, num=str(int(one.num) + offset) if told else one.num)
+
+
 def timed(seen, offsets):
     """With the offsets of the CPUs. A loss has the time of the next record of its CPU, or else of the last one."""
-    lost, last = {}, {}
+    lost, last = [], {}
     for one in seen:
         if one.ns is None:
-            lost[one.cpu] = one
+            lost.append(one)
             continue
-        one = one._replace(ns=one.ns + offsets.get(one.cpu, 0))
+        one = moved(one, offsets.get(one.cpu, 0))
         last[one.cpu] = one.ns
-        if one.cpu in lost:
-            yield lost.pop(one.cpu)._replace(ns=one.ns)
+        yield from (loss._replace(ns=one.ns) for loss in lost if loss.cpu == one.cpu)
+        lost = [loss for loss in lost if loss.cpu != one.cpu]
         yield one
-    for cpu, one in lost.items():
-        yield one._replace(ns=last.get(cpu, 0))
+    yield from (loss._replace(ns=last.get(loss.cpu, 0)) for loss in lost)
 
 
 def of_log(seen):
@@ -349,12 +381,13 @@ def booted(records, names):
 
 class Order:
     """The order of the records of all cores: by their times, but for what one record shows of another. A request
-    follows the one with the ticket before. If a resource is held, an acquire follows the event that frees it, unless
-    that is later by more than the clocks may differ."""
+    follows the one with the ticket before. If a resource is held, an acquire follows the event that frees it, and what
+    a job does follows its release, unless that is later by more than the clocks may differ."""
 
     def __init__(self, records, skew):
         self.skew, self.holders, self.frees = skew, Counter(), {}
         self.asked = {(one.res, int(one.num)) for one in records if one.event == "request" and one.num}
+        self.releases = {(one.task, one.job): one for one in records if one.event == "release"}
         for one in records:
             if one.event == "freed":
                 self.frees.setdefault(one.res, deque()).append(one.ns)
@@ -362,30 +395,41 @@ class Order:
     def waits(self, one):
         if one.event == "request" and one.num:
             return (one.res, int(one.num) - 1) in self.asked
+        release = self.releases.get((one.task, one.job), one)
+        if release.core != one.core and release.ns <= one.ns + self.skew:
+            return True
         frees = self.frees.get(one.res)
         return one.event == "acquire" and self.holders[one.res] > 0 and bool(frees) and frees[0] <= one.ns + self.skew
 
     def note(self, one):
         self.holders[one.res] += {"acquire": 1, "freed": -1}.get(one.event, 0)
+        if one.event == "release":
+            self.releases.pop((one.task, one.job), None)
         if one.event == "freed":
             self.frees[one.res].popleft()
         if one.event == "request" and one.num:
             self.asked.discard((one.res, int(one.num)))
 
-    def of(self, records, cores):
-        queues = [deque(pair for pair in enumerate(records) if pair[1].core == core) for core in range(cores)]
+    def of(self, records):
+        queues = [deque(pair for pair in enumerate(records) if pair[1].core == core) for core in {one.core for one in records}]
         while any(queues):
             _, one = min(filter(None, queues), key=lambda queue: (self.waits(queue[0][1]), queue[0][0])).popleft()
             self.note(one)
             yield one
 
 
-def write(records, cores, are_numbered, out):
-    print("msrp-log", 1, cores, sep=",", file=out)
+def numbered(records):
+    """Each record with its number among those of its core."""
     count = Counter()
     for record in records:
         count[record.core] += 1
-        print(*record, count[record.core] if are_numbered else "", sep=",", file=out)
+        yield record._replace(seq=count[record.core])
+
+
+def write(records, cores, out):
+    print("msrp-log", 1, cores, sep=",", file=out)
+    for record in records:
+        print(*record, sep=",", file=out)
 
 
 def offset_of(text):
@@ -406,20 +450,29 @@ class Lines:
             yield line
 
 
-def log_of(options, lines):
-    """The records of the log. Says in options whether losses show."""
-    options.shows_losses = options.form in WITH_LOSSES
-    seen = list(timed(FORMS[options.form](lines, options), dict(options.offset)))
+def traced(options, lines):
+    """The records of a trace, in the order of their times."""
+    seen = list(timed(FORMS[options.form](lines, options), options.offsets))
     if not seen:
         raise ValueError(f"no line has the form {options.form}")
     log = Log(options.names)
-    records = booted([record for one in of_log(seen) for record in log.records(one)], options.names)
-    return Order(records, options.skew).of(records, options.names.cores)
+    return booted([record for one in of_log(seen) for record in log.records(one)], options.names)
+
+
+def log_of(options, lines):
+    """The records of the log. Says in options whether losses show."""
+    options.shows_losses, options.offsets = options.form in WITH_LOSSES, dict(options.offset)
+    if options.form == "log":
+        records = read_log(lines, options)
+        return Order(records, options.skew).of(records)
+    records = traced(options, lines)
+    ordered = Order(records, options.skew).of(records)
+    return numbered(ordered) if options.shows_losses else ordered
 
 
 def main():
     parser = argparse.ArgumentParser(description=__doc__, formatter_class=argparse.RawDescriptionHelpFormatter)
-    parser.add_argument("form", choices=FORMS)
+    parser.add_argument("form", choices=(*FORMS, "log"))
     parser.add_argument("--map")
     parser.add_argument("--offset", type=offset_of, action="append", default=[])
     parser.add_argument("--skew", type=time_of, default=0)
@@ -437,7 +490,7 @@ def main():
             fail(f"{options.trace}:{lines.number}: {wrong}")
     if not options.shows_losses:
         print("trace_log.py: this trace can't show losses: a lost event would look like a fault", file=sys.stderr)
-    write(records, options.names.cores, options.shows_losses, sys.stdout)
+    write(records, options.names.cores, sys.stdout)
 
 
 if __name__ == "__main__":

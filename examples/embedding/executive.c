@@ -371,9 +371,10 @@ static void execute(struct msrp_run *run) {
 
 int main(int argc, char **argv) {
     struct msrp_run run = {NULL};
-    if (argc == 4 && !strcmp(argv[1], "--tick-us"))
+    const bool has_tick = argc == 4 && !strcmp(argv[1], "--tick-us");
+    if (has_tick)
         tick_ns = strtoll(argv[2], NULL, 10) * 1000;
-    if ((argc != 2 && argc != 4) || tick_ns <= 0 || msrp_version() != MSRP_VERSION)
+    if ((argc != 2 && !has_tick) || tick_ns <= 0 || msrp_version() != MSRP_VERSION)
         stop(3, "usage", "executive [--tick-us N] PLAN > TRACE");
     load(&run, argv[argc - 1]);
     execute(&run);

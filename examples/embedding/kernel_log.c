@@ -1,4 +1,4 @@
-/* Audits the log of a kernel event by event, as a monitor would, and then one with another event. */
+/* Audits the log of a kernel event by event, as a monitor would, and then a faulty one. */
 #include "two_cores.h"
 
 #include <inttypes.h>

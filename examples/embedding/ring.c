@@ -1,12 +1,14 @@
-/* A toy kernel of two cores that notes its rows in a ring buffer, and a monitor that audits them: after each tick the rows so far, and
- * in the end the whole run. The kernel's second run has a bug: it grants a resource that is still held. Then the monitor says why that is wrong. */
+/* A toy kernel with two cores that stores its rows in a ring buffer, and a monitor that audits
+ * them: after each tick the rows so far, and in the end the whole run. The second run of the
+ * kernel has a bug: it grants a resource that is still held. The monitor then says why this is
+ * wrong. */
 #include "msrp.h"
 #include <inttypes.h>
 #include <stdio.h>
 
 #define CORES 2
 #define TICKS 6
-#define ROOM 16 /* rows that the ring has, no fewer than those of a run: the monitor reads from the first row on */
+#define ROOM 16 /* rows in the ring: all rows of a run, since the monitor reads from the first on */
 
 static const char PLAN[] = "msrp,1\ncores,2\nticks,6\nresource,g\n"
                            "task,a,0,20,8,0\nop,lock,g\nop,run,1\nop,unlock,g\n"
@@ -17,7 +19,8 @@ struct ring {
     size_t count;
 };
 
-/* The row of a core in a tick. Each core has one task with one job, of the core's number, and both tasks use the one resource. */
+/* The row of a core in a tick. Each core has one task, with the number of the core, and one job.
+ * Both tasks use the same resource. */
 static struct msrp_row row_of(uint32_t tick, uint32_t core, uint32_t kind) {
     struct msrp_row row = {tick, core, kind, MSRP_NONE, MSRP_NONE, MSRP_NONE, MSRP_NONE};
     if (kind != MSRP_IDLE) {

@@ -29,14 +29,15 @@ static uint64_t now(void)
 enum { CORES = 2, TASKS = 5, RESOURCES = 2, ROOM = 4096, US = 1000 };
 enum { BUS, BUFFER };
 
-/* A job works, and then locks each of its resources, works, and unlocks it. Times are in us. */
+/* A job works, and then locks each of its resources, works, and unlocks it. Times are in us. While
+ * the diagnosis holds its buffer, a job of the filter is released whose level is the ceiling. */
 static const struct task {
     uint32_t core, period, deadline, work;
     struct { int resource; uint32_t work; } sections[3]; /* up to a work of 0 */
 } TASK[TASKS] = {
     {0, 1000, 800, 50, {{BUS, 60}}},
     {0, 2500, 2400, 80, {{BUFFER, 150}}},
-    {0, 10000, 9000, 300, {{BUFFER, 400}, {BUS, 200}, {BUFFER, 50}}},
+    {0, 10000, 9000, 300, {{BUFFER, 2200}, {BUS, 200}, {BUFFER, 50}}},
     {1, 700, 600, 40, {{BUS, 50}}},
     {1, 8000, 7000, 500, {{BUS, 300}, {BUS, 100}}},
 };

@@ -18,7 +18,7 @@ _PLAN_WORDS = re.compile(r"plan(?::(\d+))?: error P\d+: (.*)")
 
 
 class Error(Exception):
-    """A plan, a trace or an argument is refused, or a trace is no legal run.
+    """A plan, a trace or an argument is refused, or a trace isn't a legal run.
 
     `code` is a code of docs/FAULTS.md, `record` and `line` say where (None if unknown), and `words`
     say why. Records are counted from 1, without empty lines.
@@ -60,7 +60,7 @@ class TraceError(Error, ValueError):
 
 
 class FaultError(Error):
-    """A trace is no legal run, and so has no report. `code` is the rule, `words` is `Verdict.why`.
+    """A trace isn't a legal run, so it has no report. `code` is the rule, `words` is `Verdict.why`.
 
     >>> plan = msrp.Plan.example()
     >>> try:

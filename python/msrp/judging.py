@@ -19,10 +19,10 @@ _EXPECTED = re.compile(r"^expected: (.*)", re.M)
 
 @dataclass(frozen=True)
 class Verdict:
-    """True for a legal run. Else `row` is the first row that violates a rule, counted from 1.
+    """True for a legal run. Otherwise `row` is the first row that violates a rule, from 1.
 
     `rule` is the lowest rule that it violates, `line` its line in the trace's text, and `expected`
-    the row that is expected there. `why` explains the verdict. What doesn't apply is None.
+    the row that is expected there. `why` explains the verdict. A field that doesn't apply is None.
 
     >>> plan = msrp.Plan.example()
     >>> verdict = msrp.audit(plan, list(msrp.simulate(plan))[:3])
@@ -89,7 +89,7 @@ class Auditor:
         weakref.finalize(self, library.msrp_auditor_free, byref(self._handle))
 
     def feed(self, row: RowLike) -> Verdict:
-        """The verdict on all rows so far. After a fault it stays.
+        """The verdict on all rows so far. After a fault it stays the same.
 
         >>> auditor = msrp.Auditor(msrp.Plan.example())
         >>> bool(auditor.feed((0, 0, "take", "a", 0, "g")))
@@ -105,7 +105,7 @@ class Auditor:
             return self._verdict(*ask("msrp_auditor_feed", byref(self._handle), byref(numbers)))
 
     def end(self) -> Verdict:
-        """The verdict on the rows so far as a whole trace. More rows may be fed after it.
+        """The verdict on the rows so far as a whole trace. More rows may be fed afterwards.
 
         >>> auditor = msrp.Auditor(msrp.Plan.example())
         >>> auditor.end().rule
@@ -115,9 +115,9 @@ class Auditor:
             return self._verdict(*ask("msrp_auditor_end", byref(self._handle)))
 
     def due(self, core: int) -> Optional[Row]:
-        """The row that is due of a core: fed next, it has no fault. None after the last row.
+        """The row that is expected of a core: fed next, it has no fault. None after the last row.
 
-        A core has one row a tick: before the other cores have theirs, none is due of it.
+        A core has one row in each tick. The next one is expected when all others have theirs.
 
         >>> auditor = msrp.Auditor(msrp.Plan.example())
         >>> auditor.due(1)

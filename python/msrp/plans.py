@@ -25,9 +25,9 @@ def section(resource: str, *body: Step) -> List[Step]:
 
 @dataclass(frozen=True)
 class Task:
-    """A task of a core: released every `period` ticks from `offset` on, or at the given `releases`.
+    """A task of a core, released every `period` ticks from `offset` on, or at the given `releases`.
 
-    `deadline` is relative to the release; without it, it is the period. `body` has the steps of a
+    `deadline` is relative to the release (default: the period). `body` has the steps of a
     job: `("run", N)` for N ticks of work, `("lock", NAME)` and `("unlock", NAME)`.
 
     >>> body = [("run", 2), *msrp.section("bus", ("run", 1))]
@@ -50,7 +50,7 @@ class Task:
         >>> msrp.Plan.example().tasks[0].length
         3
         """
-        return sum(step[1] if isinstance(step[1], int) else 1 for step in self.body)
+        return sum(int(of) if what == "run" else 1 for what, of in self.body)
 
     def _records(self) -> Iterator[Tuple[object, ...]]:
         deadline = self.period if self.deadline is None else self.deadline
@@ -129,7 +129,7 @@ class Plan:
 
     @classmethod
     def build(cls, *, cores: int, ticks: int, tasks: Sequence[Task], resources: Optional[Sequence[str]] = None) -> Plan:
-        """A plan of tasks. Without `resources` it has those that the tasks lock.
+        """A plan of tasks. Without `resources` it has the resources that the tasks lock.
 
         >>> tasks = [msrp.Task("a", core=0, period=5, body=msrp.section("g", ("run", 1)))]
         >>> print(msrp.Plan.build(cores=1, ticks=10, tasks=tasks).text, end="")
@@ -170,7 +170,7 @@ class Plan:
 
     @property
     def warnings(self) -> List[str]:
-        """What is rarely intended in an accepted plan.
+        """Things in an accepted plan that are rarely intended.
 
         >>> slow = msrp.Task("a", core=0, period=9, deadline=2, body=[("run", 3)])
         >>> msrp.Plan.build(cores=1, ticks=9, tasks=[slow]).warnings

@@ -17,7 +17,7 @@ TEXT, SVG = range(2)
 
 @dataclass(frozen=True)
 class TaskReport:
-    """What happened to a task in a trace, and bounds of what can happen, in ticks.
+    """What happened to a task in a trace, and bounds on what can happen, in ticks.
 
     docs/REPORT.md explains the fields.
 
@@ -93,7 +93,7 @@ def check(plan: PlanLike) -> Levels:
 class Picture:
     """A picture of a trace in SVG, which a notebook shows, and in plain text.
 
-    `fault` says why the trace is no legal run; None if it is one.
+    `fault` says why the trace isn't a legal run; None if it is one.
 
     >>> plan = msrp.Plan.example()
     >>> picture = msrp.picture(plan, msrp.simulate(plan))
@@ -129,9 +129,9 @@ class Picture:
 
 
 def picture(plan: PlanLike, trace: TraceLike, start: int = 0, stop: int = 0) -> Picture:
-    """The picture of the ticks from `start` up to `stop`, which isn't drawn.
+    """The picture of the ticks from `start` up to `stop`, exclusive.
 
-    Without `stop` it has at most 200 ticks. Of a faulty trace it has the rows up to the fault.
+    Without `stop` it shows at most 200 ticks. A faulty trace is shown up to the fault.
 
     >>> plan = msrp.Plan.example()
     >>> trace = msrp.simulate(plan)

@@ -15,7 +15,7 @@ KINDS = ("idle", "run", "lock", "unlock", "take", "queue", "spin", "grant", "rel
 
 
 class Row(NamedTuple):
-    """What a core did in a tick. What a row doesn't have is None.
+    """What a core did in a tick. A field that the row doesn't have is None.
 
     `ahead` is, on a queue row, the number of jobs in the queue before this one joined.
 
@@ -157,7 +157,7 @@ class Trace:
 
     @property
     def rows(self) -> Tuple[Row, ...]:
-        """The rows. Row 1 of a verdict is `rows[0]`. ValueError if a record is no row.
+        """The rows. Row 1 of a verdict is `rows[0]`. ValueError if a record isn't a row.
 
         >>> msrp.simulate(msrp.Plan.example()).rows[-1]
         Row(tick=5, core=1, kind='idle', task=None, job=None, resource=None, ahead=None)
@@ -193,4 +193,4 @@ class Trace:
         return hash(self._text)
 
     def __repr__(self) -> str:
-        return f"<msrp.Trace: rows {sum(map(bool, self._text.splitlines()[1:]))}>"
+        return f"<msrp.Trace: rows {max(0, sum(map(bool, self._text.splitlines())) - 1)}>"

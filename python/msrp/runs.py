@@ -1,4 +1,4 @@
-"""Runs: simulated, or on threads of the caller's."""
+"""Runs: simulated, or on your own threads."""
 from __future__ import annotations
 
 import threading
@@ -40,7 +40,7 @@ def _pause() -> None:
 
 
 class Core:
-    """A core of a `Run`. One thread at a time has it.
+    """A core of a `Run`. One thread at a time uses it.
 
     >>> [core.number for core in msrp.Run(msrp.Plan.example()).cores]
     [0, 1]

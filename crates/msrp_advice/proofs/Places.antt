@@ -1,6 +1,6 @@
 -- Records by their places, and the last place that passes a test.
-use Rattle.std.proofs.Common.{◌≡◌, ◌∙◌, ◌+◌, ◌<◌, ◌&&◌, if◌then◌else◌}
-use Rattle.msrp_plan.proofs.Common.{ℕ, Bool, true, List, [], None, Some, ap, sym, refl, add-one, any_map, codes, drop, length, list_any, map, not, slice_index_or, get_or-map}
+use Rattle.std.proofs.Common.{◌≡◌, ◌∙◌, ◌+◌, ◌<◌, ◌&&◌, ◌∷◌, ◌++◌, if◌then◌else◌}
+use Rattle.msrp_plan.proofs.Common.{ℕ, Bool, true, List, [], None, Some, ap, sym, refl, add-one, any_map, codes, drop, fold, fold_push, length, list_any, map, not, slice_index_or, get_or-map, take, take_more}
 use Rattle.std.proofs.lemmas.List.{drop-map}
 use Rattle.csv.specs.Records.{Row, fields_of}
 use Rattle.msrp_text.specs.Reading.{record_at}
@@ -31,10 +31,7 @@ open-is before i lock undone within is locks says =
     ∙ ap (λ f. is_op (codes "lock") f && not (list_any (is_op_on (codes "unlock") f) (drop (i + 1) (map fields_of before)))) fields)
 
 -- the core of the last task, one record further
-pub core-none : (before : List (List (List ℕ))) → 0 ≡ core_at before 0
-unfolding core_at
-core-none before = refl
-
-pub core-more : (before : List (List (List ℕ))) (n core next : ℕ) (fields : List (List ℕ)) → next ≡ core_after fields core → fields ≡ record_at before n → core ≡ core_at before n → next ≡ core_at before (n + 1)
-unfolding core_at
-core-more before n core next fields e r k = rw add-one (e ∙ (ap (λ f. core_after f core) r ∙ ap (core_after (record_at before n)) k))
+pub core-more : (records : List Row) (n : ℕ) (row : Row) → n < length records → row ≡ slice_index_or records n row → core_after (fields_of row) (core_at records n) ≡ core_at records (n + 1)
+core-more records n row within is =
+    let step = λ (core : ℕ) (r : Row). core_after (fields_of r) core in
+    sym (ap (fold step 0) (take_more records n row within ∙ ap (λ r. take n records ++ r ∷ []) (sym is)) ∙ fold_push step 0 (take n records) row)

@@ -1,6 +1,6 @@
 -- What a record of a plan is, and what it shares with another. A record is the list of its fields.
 use Rattle.std.specs.Prelude.{◌&&◌, ◌+◌, ◌||◌, if◌then◌else◌, ◌==◌, ◌≡◌}
-use Rattle.msrp_plan.specs.Common.{ℕ, Bool, not, List, codes, drop, list_any, zero, suc, false, length, Option, Some, None, true, take, map}
+use Rattle.msrp_plan.specs.Common.{ℕ, Bool, not, List, codes, drop, fold, list_any, zero, suc, false, length, Option, Some, None, true, take, map}
 use Rattle.msrp_text.specs.Fields.{has_word, name_at}
 use Rattle.msrp_text.specs.Reading.{record_at, number_told}
 use Rattle.msrp_plan.specs.declared.faults.PlanFault.{PlanFault}
@@ -58,19 +58,18 @@ abbrev pub core_after : List (List ℕ) → ℕ → ℕ
 core_after fields core = if is_task fields then number_told fields 2 else core
 
 -- the core of the last task among the first n records
-unfoldable pub core_at : List (List (List ℕ)) → ℕ → ℕ
-core_at records zero = 0
-core_at records (suc n) = core_after (record_at records n) (core_at records n)
+abbrev pub core_at : List Row → ℕ → ℕ
+core_at records n = fold (λ core row. core_after (fields_of row) core) 0 (take n records)
 
 -- a task of another core locks, somewhere, the resource that is locked at a place: it is global
-pub record IsShared (records : List (List (List ℕ))) (lock : ℕ) : Type 0 where
+pub record IsShared (records : List Row) (lock : ℕ) : Type 0 where
   pub place : ℕ
-  pub locks : is_op_on (codes "lock") (record_at records lock) (record_at records place) ≡ true
+  pub locks : is_op_on (codes "lock") (record_at (map fields_of records) lock) (record_at (map fields_of records) place) ≡ true
   pub elsewhere : (core_at records place == core_at records lock) ≡ false
 
 -- both are locks of global resources, and the first is open at the second
 pub record AreNested (records : List Row) (outer inner : ℕ) : Type 0 where
   pub held : is_open (map fields_of (take inner records)) outer ≡ true
   pub lock : is_op (codes "lock") (record_at (map fields_of records) inner) ≡ true
-  pub outer_shared : IsShared (map fields_of records) outer
-  pub inner_shared : IsShared (map fields_of records) inner
+  pub outer_shared : IsShared records outer
+  pub inner_shared : IsShared records inner

@@ -1,6 +1,6 @@
 //! A lock of a global resource while a global one is held.
 ghost use Rattle.std.specs.Prelude.{◌≡◌, ◌<◌, ◌≤◌};
-ghost use Rattle.msrp_plan.specs.Common.{length, map, true, IfSome};
+ghost use Rattle.msrp_plan.specs.Common.{length, true, IfSome};
 ghost use Rattle.csv.specs.Records.{fields_of};
 ghost use Rattle.msrp_advice.specs.Records.{AreNested, IsShared};
 ghost use Rattle.msrp_advice.specs.Records as spec;
@@ -31,19 +31,16 @@ fn core_after(row: &ByteRecord, core: u32) -> u32
 
 fn core_at(records: &[ByteRecord], n: usize) -> u32
     requires { n ≤ length records.now }
-    ensures { result ≡ spec.core_at (map fields_of records.now) n }
+    ensures { result ≡ spec.core_at records.now n }
 {
-    let mut core = 0;
-    for k in 0..n {
-        core = core_after(&records[k], core);
-    }
-    core
+    let rows = records[..n].iter();
+    rows.fold(0, |core, row| core_after(row, core))
 }
 
 // Whether a task of another core locks the resource that is locked at a place.
 fn is_shared(records: &[ByteRecord], lock: usize) -> bool
     requires { lock < length records.now }
-    ensures { result ≡ true → IsShared (map fields_of records.now) lock }
+    ensures { result ≡ true → IsShared records.now lock }
 {
     let (locked, own) = (&records[lock], core_at(records, lock));
     let mut core = 0;

@@ -5,7 +5,7 @@
 
 use crate::nested::{NestedLocks, Users, nested_locks};
 use crate::records::{
-    busiest_task, earlier_record, field, is_op, is_open, is_task, jobs_of, number_told,
+    busiest_task, earlier_record, field, is_op, is_open, is_same, is_task, jobs_of, number_told,
 };
 use crate::refused::RefusedPlan;
 use crate::shown::{Count, Shown};
@@ -62,7 +62,7 @@ impl<'a> RefusedPlan<'a> {
         let (_, _, first, names) = form_of(row);
         let mut numbers = first..first.saturating_add(names.len());
         match self.fault {
-            PlanFault::OutOfPlace if has_word(row, 0, b"op") => 1,
+            PlanFault::OutOfPlace if has_word(row, 0, b"op") && 3 < self.number => 1,
             PlanFault::Number => numbers.find(|i| number_at(row, *i).is_none()).unwrap_or(1),
             PlanFault::Limit => numbers.find(|i| is_out(row, *i)).unwrap_or(0),
             PlanFault::Name | PlanFault::Taken | PlanFault::Releases => 1,
@@ -161,8 +161,15 @@ impl<'a> RefusedPlan<'a> {
         }
     }
 
+    // Whether the resource of a lock or an unlock is held.
+    fn holds(&self) -> bool {
+        let before = self.before;
+        let mut open = (0..before.len()).filter(|i| is_open(before, *i));
+        open.any(|i| before.get(i).is_some_and(|lock| is_same(2, self.row, lock)))
+    }
+
     fn nesting(&self) -> &'static str {
-        if self.earlier().is_none() {
+        if is_op(b"unlock", self.row) && !self.holds() {
             "task {task} doesn't hold {it}"
         } else if !has_word(self.row, 0, b"op") {
             "task {task} ends while it holds {held}; add op,unlock,{held}"
@@ -229,9 +236,10 @@ impl<'a> RefusedPlan<'a> {
     }
 
     fn write_most<W: Write>(&self, f: &mut Formatter<W>) -> fmt::Result {
-        match busiest_task(self.before).and_then(|i| self.before.get(i)) {
-            Some(task) => {
-                let (name, jobs) = (Shown(field(task, 1)), jobs_of(self.before, task));
+        match busiest_task(self.before) {
+            Some(place) => {
+                let name = shown(self.before.get(place), 1);
+                let jobs = jobs_of(self.before, place);
                 write!(f, "; task {name} releases most: {jobs}")
             }
             None => Ok(()),

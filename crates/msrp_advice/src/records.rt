@@ -1,6 +1,6 @@
 //! The records of a plan's text: what each is, what it shares with another, and the earlier one
 //! that a refusal concerns.
-ghost use Rattle.std.specs.Prelude.{◌≡◌, ◌<◌, ◌≤◌};
+ghost use Rattle.std.specs.Prelude.{◌≡◌, ◌<◌};
 ghost use Rattle.msrp_plan.specs.Common.{codes, drop, length, list_any, map};
 ghost use Rattle.csv.specs.Records.{fields_of};
 ghost use Rattle.msrp_text.specs.Reading.{number_told};
@@ -59,19 +59,12 @@ pub(crate) fn is_op_on(word: &[u8], lock: &ByteRecord, row: &ByteRecord) -> bool
     is_op(word, row) && is_same(2, lock, row)
 }
 
-// Whether one of these records unlocks what a lock locks.
-fn has_unlock(lock: &ByteRecord, rows: &[ByteRecord]) -> bool
-    ensures { result ≡ list_any (λ row. spec.is_op_on (codes "unlock") (fields_of lock.now) (fields_of row)) rows.now }
-{
-    rows.iter().any(|row| is_op_on(b"unlock", lock, row))
-}
-
-// Whether one from that place on does.
+// Whether a record from that place on unlocks what a lock locks.
 fn is_let_go(lock: &ByteRecord, rows: &[ByteRecord], from: usize) -> bool
-    requires { from ≤ length rows.now }
     ensures { result ≡ list_any (λ row. spec.is_op_on (codes "unlock") (fields_of lock.now) (fields_of row)) (drop from rows.now) }
 {
-    has_unlock(lock, &rows[from..])
+    let mut later = rows.iter().skip(from);
+    later.any(|row| is_op_on(b"unlock", lock, row))
 }
 
 /// Whether the record at a place is a lock, and none after it unlocks its resource.
@@ -115,17 +108,24 @@ pub fn earlier_record(fault: PlanFault, before: &[ByteRecord], row: &ByteRecord)
     last
 }
 
-/// How many jobs a periodic task releases within the ticks, which the third record has.
-pub(crate) fn jobs_of(records: &[ByteRecord], task: &ByteRecord) -> u32 {
-    let (period, offset) = (number_told(task, 3), number_told(task, 5));
+/// How many jobs the task at a place releases within the ticks, which the third record has.
+pub(crate) fn jobs_of(records: &[ByteRecord], place: usize) -> usize {
     let ticks = records.get(2).map_or(0, |row| number_told(row, 1));
-    ticks.saturating_sub(offset).div_ceil(period.max(1))
+    let Some(task) = records.get(place) else {
+        return 0;
+    };
+    if has_word(task, 0, b"task") {
+        let (period, offset) = (number_told(task, 3), number_told(task, 5));
+        return ticks.saturating_sub(offset).div_ceil(period.max(1)) as usize;
+    }
+    let behind = records.iter().skip(place.saturating_add(1));
+    let releases = behind.take_while(|row| has_word(row, 0, b"release"));
+    releases.filter(|row| number_told(row, 1) < ticks).count()
 }
 
-/// The place of a periodic task that releases the most jobs.
+/// The place of a task that releases the most jobs.
 pub(crate) fn busiest_task(records: &[ByteRecord]) -> Option<usize> {
-    let rows = records.iter().enumerate();
-    let tasks = rows.filter(|(_, row)| has_word(row, 0, b"task"));
-    let busiest = tasks.max_by_key(|(_, row)| jobs_of(records, row));
+    let tasks = records.iter().enumerate().filter(|(_, row)| is_task(row));
+    let busiest = tasks.max_by_key(|(place, _)| jobs_of(records, *place));
     busiest.map(|(place, _)| place)
 }

@@ -1,7 +1,7 @@
 -- What an auditor's tests say of a row: whether it is in its turn, and whether its job is one of
 -- its core.
-use Rattle.std.proofs.Common.{◌≡◌, ◌≢◌, ◌+◌, ◌*◌, ◌/◌, ◌<◌, ◌≤◌, ◌==◌, ◌&&◌, ◌||◌, ◌∷◌, ◌++◌, ◌∙◌}
-use Rattle.msrp_plan.proofs.Common.{ℕ, zero, suc, Bool, true, false, not, cond, nat_lt, List, [], Option, Some, None, refl, ap, sym, subst, arith, length, length-append, map, inl, inr, eq-eqb, eqb-true, slice_get, list_any, flat_map, range_with_len, AllByRecursion, ⊤, option_or, true≢false, or-true, cases_Bool, cases_lt, lt-ltb, le-ltb, false_from_ne_true, eqb-false, All-contains, All-from_recursion, list_any-append, same_Some, PlanModel, core_of, job_at, jobs_of, jobs, jobs_on, same_job, IsLegal, IsRunStart, EachAfter, had_turn, is_in_turn, is_on_core, is_of_core, is_chosen, is_next_action, is_fifo_reply, log_of, IsPlan, broken, refused, fault_in, fault_or, any_in, not_equal, same_is, same_self, jobs_of_are, core_jobs_below, kept_by, on_its_core, due, legal_due, same_res_is, same_choice_is, same_kind_is, turns_when_due, fault_push, fault_stays, unbroken_is_legal, mul-le-mul_left, div-mul-add, same_res, same_choice, IfSome, IfOk, and_parts}
+use Rattle.std.proofs.Common.{◌≡◌, ◌≢◌, ◌+◌, ◌-◌, ◌*◌, ◌/◌, ◌<◌, ◌≤◌, ◌==◌, ◌&&◌, ◌||◌, ◌^◌, ◌∷◌, ◌++◌, ◌∙◌}
+use Rattle.msrp_plan.proofs.Common.{ℕ, zero, suc, Bool, true, false, not, cond, nat_lt, List, [], Option, Some, None, refl, ap, sym, subst, arith, length, length-append, map, inl, inr, eq-eqb, eqb-true, slice_get, list_any, flat_map, range_with_len, AllByRecursion, ⊤, option_or, true≢false, or-true, cases_Bool, cases_lt, lt-ltb, le-ltb, ltb-true, false_from_ne_true, eqb-false, All-contains, All-from_recursion, list_any-append, same_Some, PlanModel, core_of, job_at, jobs_of, jobs, jobs_on, same_job, IsLegal, IsRunStart, EachAfter, had_turn, is_in_turn, is_on_core, is_of_core, is_chosen, is_next_action, is_fifo_reply, log_of, IsPlan, broken, refused, fault_in, fault_or, any_in, not_equal, same_is, same_self, jobs_of_are, core_jobs_below, kept_by, on_its_core, due, legal_due, same_res_is, same_choice_is, same_kind_is, turns_when_due, fault_push, fault_stays, unbroken_is_legal, mul-le-mul_left, div-mul-add, same_res, same_choice, IfSome, IfOk, and_parts}
 use Rattle.msrp_plan.specs.declared.ids.JobId.{JobId}
 use Rattle.msrp_plan.specs.declared.faults.Fault.{Fault}
 use Rattle.msrp_plan.specs.declared.faults.Rule.{Rule}
@@ -22,7 +22,7 @@ use Rattle.msrp_plan.proofs.Runs.CoreRuns.{due_by_log}
 use Rattle.msrp_plan.proofs.Runs.Verdicts.{legal_is_unbroken}
 use Rattle.msrp_core.specs.Machine.{MachineModel}
 use Rattle.msrp_sim.specs.Cores.{CoresModel, StandFor, IsDueInRun, IsNextRow, MakesNext, StandOn, IsAs}
-use Rattle.msrp_audit.specs.Audits.{AuditorModel, HasFed, IsDueInAudit, IsDueRow, Awaits, answer_of, has_turn, auditor_view, IsAuditorView, place_in}
+use Rattle.msrp_audit.specs.Audits.{AuditorModel, HasFed, IsDueInAudit, IsDueRow, Awaits, answer_of, due_in, has_turn, auditor_view, IsAuditorView, place_in}
 use Rattle.msrp_audit.specs.declared.auditor.Auditor.TheInside.{Inside}
 use Rattle.msrp_plan.specs.Kinds.{same_kind}
 use Rattle.msrp_audit.specs.Foresight.{unlike, does_alike, replied_alike, same_action, same_ahead}
@@ -283,6 +283,19 @@ tick_left tick cores place ticks l = elim (cases_lt tick ticks) [
 
 pub place_low : (i : Inside) → IsAuditorView i → place_in i < i.plan.now.cores
 place_low i keeps = let some = keeps.some in let most = keeps.most in omega (arith, some, most)
+
+-- a core of that tick may have its turn only while there is no fault, and rows are left
+pub due_told : (fault : Option Fault) (tick ticks t : ℕ) → t ≤ 20000 → t ≡ due_in fault tick ticks → (fault ≡ None) × (tick < ticks) × (t ≡ tick)
+due_told (Some f) tick ticks t few is = absurd (omega (arith, few, is))
+due_told None tick ticks t few is = let by = by_test (nat_lt tick ticks) refl in (refl, by.0, by.1)
+  where
+    by_test : (b : Bool) → nat_lt tick ticks ≡ b → (tick < ticks) × (t ≡ tick)
+    by_test true e = (ltb-true tick ticks e, is ∙ ap (λ b. cond b tick (2 ^ 32 - 1)) e)
+    by_test false e = let no = is ∙ ap (λ b. cond b tick (2 ^ 32 - 1)) e in absurd (omega (arith, few, no))
+
+pub due_is : (fault : Option Fault) (tick ticks : ℕ) → fault ≡ None → tick < ticks → due_in fault tick ticks ≡ tick
+due_is None tick ticks none l = ap (λ b. cond b tick (2 ^ 32 - 1)) (lt-ltb tick ticks l)
+due_is (Some f) tick ticks none l = absurd (cc)
 
 -- the same of an auditor that was fed rows without a fault
 module _ (i : Inside) (a : AuditorModel) (rows : List Row) (keeps : IsAuditorView i) (is : auditor_view i ≡ a) (fed : HasFed a rows) (none : a.fault ≡ None) where

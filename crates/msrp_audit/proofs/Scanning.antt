@@ -20,7 +20,7 @@ row_at [] i low = absurd (let no : ⊥ = omega (arith, low) in no)
 row_at (x ∷ rows) zero low = (x, refl)
 row_at (x ∷ rows) (suc i) low = let more = row_at rows i (omega (arith, low)) in (more.0, more.1)
 
--- where the rows before a place are the start of a legal run, so are they up to each place before it
+-- rows before a place that are the start of a legal run are so up to each place before it
 pub start_at : (plan : PlanModel) (rows pre post : List Row) (r x : Row) (i : ℕ) → rows ≡ pre ++ r ∷ post → IsRunStart plan pre → i < length pre → x ≡ get_or rows i x → IsRunStart plan (take i rows ++ x ∷ [])
 start_at plan rows pre post r x i is start low at =
     let size = split_length rows pre post r is in

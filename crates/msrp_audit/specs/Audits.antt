@@ -2,7 +2,7 @@
 use Rattle.msrp_plan.specs.Common.{ℕ, true, false, List, [], Bool, not, nat_lt, Option, Some, None, Ok, Err, length, slice_get, ⊤, IsSomeAnd, PlanModel, IsLegal, had_turn, is_in_turn, fault_in, IsPlan}
 use Rattle.msrp_plan.specs.declared.faults.Fault.{Fault}
 use Rattle.msrp_plan.specs.declared.rows.Row.{Row}
-use Rattle.std.specs.Prelude.{◌∷◌, ◌++◌, ◌&&◌, ◌/◌, ◌≡◌, ◌<◌, ◌≤◌, ◌+◌, ◌-◌, ◌*◌, Result}
+use Rattle.std.specs.Prelude.{◌∷◌, ◌++◌, ◌&&◌, ◌/◌, ◌≡◌, ◌<◌, ◌≤◌, ◌+◌, ◌-◌, ◌*◌, ◌^◌, if◌then◌else◌, Result}
 use Rattle.std.specs.Option.{option_map}
 use Rattle.msrp_core.specs.Machine.{MachineModel}
 use Rattle.msrp_sim.specs.Cores.{CoresModel, StandFor, IsNextRow, IsAs}
@@ -72,6 +72,11 @@ has_turn plan rows c = nat_lt c plan.cores && not (had_turn c (length rows / pla
 abbrev pub place_in : Inside → ℕ
 place_in a = a.plan.now.cores - a.left
 
+-- the tick in which the cores may have their turns: none after a fault, and after the last row
+abbrev pub due_in : Option Fault → ℕ → ℕ → ℕ
+due_in None tick ticks = if nat_lt tick ticks then tick else 2 ^ 32 - 1
+due_in (Some fault) tick ticks = 2 ^ 32 - 1
+
 abbrev pub auditor_view : Inside → AuditorModel
 auditor_view a = record { plan = a.plan.now; cores = a.cores; fed = a.tick * a.plan.now.cores + place_in a; fault = a.fault }
 
@@ -81,3 +86,4 @@ pub record IsAuditorView (a : Inside) : Type 0 where
   pub some : 0 < a.left
   pub most : a.left ≤ a.plan.now.cores
   pub fits : a.tick * a.plan.now.cores + place_in a ≤ a.plan.now.cores * a.plan.now.ticks
+  pub due : a.due ≡ due_in a.fault a.tick a.plan.now.ticks

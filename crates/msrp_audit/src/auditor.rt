@@ -8,7 +8,7 @@ ghost use Rattle.msrp_plan.specs.declared.faults.Fault.{Fault as TraceFault};
 ghost use Rattle.msrp_plan.specs.declared.rows.Row.{Row as TraceRow};
 ghost use Rattle.msrp_sim.specs.Cores.{IsNextRow, IsSomeTurn, IsAs, Leaves, known_row};
 ghost use Rattle.msrp_sim.specs.TurnPorts.{unless_granted};
-ghost use Rattle.msrp_audit.specs.Audits.{HasFed, IsDueInAudit, IsDueRow, IsOutOfTurn, Awaits, answer_of, has_turn};
+ghost use Rattle.msrp_audit.specs.Audits.{HasFed, IsDueInAudit, IsDueRow, IsOutOfTurn, Awaits, answer_of, due_in, has_turn};
 
 use crate::comparing::unlike_due;
 use msrp_core::CoreState;
@@ -31,8 +31,14 @@ pub struct Auditor<'a> {
     // so most rows only count down.
     tick: u32,
     left: u32,
+    // That tick while rows are left, and no core's after the last row and after a fault: so one
+    // comparison says whether a core may have its turn.
+    due: u32,
     fault: Option<Fault>,
 }
+
+// The tick of no core.
+const NO_TICK: u32 = u32::MAX;
 
 impl<'a> Model for Auditor<'a> {
     ghost use Rattle.msrp_audit.specs.Audits.{AuditorModel};
@@ -44,6 +50,17 @@ impl<'a> Model for Auditor<'a> {
     ghost view = { auditor_view };
 
     ghost invariant = { IsAuditorView };
+}
+
+// The tick in which the cores may have their turns.
+fn due_in(fault: Option<Fault>, tick: u32, plan: &Plan) -> u32
+    ensures { result ≡ due_in fault tick plan.now.ticks }
+{
+    if fault.is_none() && tick < plan.ticks() {
+        tick
+    } else {
+        NO_TICK
+    }
 }
 
 // Whether the row's job, if it has one, is a job of the row's core.
@@ -93,6 +110,7 @@ impl<'a> Auditor<'a> {
             cores: Cores::with_room(alloc, plan, levels)?,
             tick: 0,
             left: plan.cores(),
+            due: due_in(None, 0, plan),
             fault: None,
         })
     }
@@ -116,8 +134,16 @@ impl<'a> Auditor<'a> {
             row: self.fed() + 1,
             rule,
         };
-        self.fault = Some(fault);
+        self.stop(fault);
         fault
+    }
+
+    // Stores the fault, after which no core has a turn.
+    fn stop(&mut self, fault: Fault)
+        ensures { self.new ≡ record self.old { fault = Some fault } }
+    {
+        self.fault = Some(fault);
+        self.due = NO_TICK;
     }
 
     /// The expected tick, while no row has a fault. After the last row it is the number of ticks.
@@ -130,26 +156,6 @@ impl<'a> Auditor<'a> {
         self.tick
     }
 
-    // Whether no row so far has a fault, and rows are left.
-    #[inline(always)]
-    fn has_rows_left(&self) -> bool
-        ensures { (result ≡ true) ↔ (self.now.fault ≡ None) × (self.now.fed < self.now.plan.cores * self.now.plan.ticks) }
-    {
-        self.fault.is_none() && self.tick < self.plan.ticks()
-    }
-
-    // Whether a core of the plan has no row yet in the next row's tick.
-    #[inline(always)]
-    fn is_due_in_tick(&self, core: CoreId) -> bool
-        requires core { core.0 < self.now.plan.cores }
-        requires good { self.now.fault ≡ None }
-        requires left { self.now.fed < self.now.plan.cores * self.now.plan.ticks }
-        ensures due { result ≡ true → IsDueInAudit self.now core.0 }
-        ensures answer { (rows : List TraceRow) → HasFed self.now rows → result ≡ has_turn self.now.plan rows core.0 }
-    {
-        self.cores.tick(core) == self.tick
-    }
-
     // Whether a core of the plan may have its turn now.
     #[inline(always)]
     fn has_turn(&self, core: CoreId) -> bool
@@ -157,7 +163,7 @@ impl<'a> Auditor<'a> {
         ensures due { result ≡ true → IsDueInAudit self.now core.0 }
         ensures answer { (rows : List TraceRow) → HasFed self.now rows → self.now.fault ≡ None → length rows < self.now.plan.cores * self.now.plan.ticks → result ≡ has_turn self.now.plan rows core.0 }
     {
-        self.has_rows_left() && self.is_due_in_tick(core)
+        self.cores.tick(core) == self.due
     }
 
     /// Whether a core may have its turn now: it is still to come in the expected tick. False after
@@ -246,6 +252,7 @@ impl<'a> Auditor<'a> {
         if self.left == 0 {
             self.tick += 1;
             self.left = self.plan.cores();
+            self.due = due_in(self.fault, self.tick, self.plan);
         }
     }
 
@@ -325,7 +332,7 @@ impl<'a> Auditor<'a> {
         }
         if !self.is_in_turn(row) {
             let out = self.fault_out_of_turn();
-            self.fault = Some(out);
+            self.stop(out);
             return Err(out);
         }
         let due = self.turn(row.core);

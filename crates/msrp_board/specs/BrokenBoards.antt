@@ -7,6 +7,7 @@ use Rattle.msrp_board.specs.Words.{ticket_word}
 use Rattle.msrp_board.specs.Seats.{empty_book}
 use Rattle.msrp_board.specs.Steps.{book_with_stop}
 
+-- two cores, one resource, four ticks
 abbrev pub size : BoardSize
 size = record { cores = 2; resources = 1; ticks = 4 }
 
@@ -72,6 +73,7 @@ early = board 0 0 2 (in_tick 1 [] ∷ in_tick 0 [] ∷ [])
 abbrev pub second_word : WholeBoard
 second_word = record (board 0 0 1 (empty_book ∷ empty_book ∷ [])) { tickets = ticket_word 0 0 ∷ ticket_word 0 0 ∷ [] }
 
+-- a board of nine cores, one more than a plan may have
 abbrev pub nine_cores : WholeBoard
 nine_cores = record (board 0 0 1 (replicate 9 empty_book)) { size = record size { cores = 9 } }
 

@@ -1,10 +1,9 @@
 -- The result of a call: its status, its numbers, and a text in the caller's buffer.
 use Rattle.std.specs.Prelude.{◌≡◌, ◌↔◌, ◌<◌, ◌≤◌, ◌++◌}
-use Rattle.msrp_plan.specs.Common.{ℕ, Bool, true, false, nat_le, List, [], length, drop, ⊤, Result}
+use Rattle.msrp_plan.specs.Common.{ℕ, Bool, true, false, nat_le, List, [], length, drop, ⊤, Result, Ok, Err}
 use Rattle.msrp_plan.specs.declared.faults.Fault.{Fault}
 use Rattle.msrp_plan.specs.declared.faults.Rule.{Rule}
 use Rattle.msrp_plan.specs.declared.faults.Rule.TheVariants.{A1, A2, A3, A4, A5, A6, A7}
-use Rattle.std.specs.declared.result.Result.TheVariants.{Ok, Err}
 use Rattle.msrp_engine.specs.Answered.{OrUnread}
 use Rattle.msrp_engine.specs.AuditText.{verdict_status}
 use Rattle.msrp_engine.specs.MadeTexts.{found_in}
@@ -58,6 +57,7 @@ or_memory Read = Memory
 or_memory Write = Memory
 or_memory fault = fault
 
+-- the result of a call, in which no read or write can fail
 abbrev pub unfailed : {A : Type 0} → Result A CliFault → Result A CliFault
 unfailed (Ok made) = Ok made
 unfailed (Err fault) = Err (or_memory fault)

@@ -7,6 +7,7 @@ use Rattle.msrp_c.specs.declared.content.Content.{Content}
 use Rattle.msrp_c.specs.declared.content.Content.TheVariants.{Auditor, Log, Open', Settled, Core}
 use Rattle.msrp_c.specs.declared.held.FedAuditor.{FedAuditor}
 
+-- an auditor of rows
 abbrev pub auditor_in : Option Content → Option FedAuditor
 auditor_in (Some (Auditor a)) = Some a
 auditor_in _ = None
@@ -26,6 +27,7 @@ abbrev pub settled_in : Option Content → Option SettledRunModel
 settled_in (Some (Settled s)) = Some s
 settled_in _ = None
 
+-- a core of a run
 abbrev pub core_in : Option Content → Option HostedCoreModel
 core_in (Some (Core c)) = Some c
 core_in _ = None

@@ -1,7 +1,6 @@
 -- An auditor that is fed row by row.
 use Rattle.std.specs.Prelude.{◌≡◌, ◌≢◌, ◌++◌, ◌∷◌, ◌+◌, ◌*◌, ◌<◌, ◌≤◌}
-use Rattle.msrp_plan.specs.Common.{[], ℕ, Bool, List, Option, Some, None, map, length, true, false, IsSomeAnd, ⊤, Result, PlanModel, fault_in, is_in_turn}
-use Rattle.std.specs.declared.result.Result.TheVariants.{Ok, Err}
+use Rattle.msrp_plan.specs.Common.{[], ℕ, Bool, List, Option, Some, None, map, length, true, false, IsSomeAnd, ⊤, Result, PlanModel, fault_in, is_in_turn, Ok, Err}
 use Rattle.msrp_audit.specs.Audits.{AuditorModel, HasFed, IsDueRow, has_turn}
 use Rattle.msrp_sim.specs.Cores.{IsNextRow}
 use Rattle.msrp_faults.specs.declared.faults.CliFault.{CliFault}
@@ -61,6 +60,7 @@ pub record IsBrokenAfter (plan : PlanModel) (turns : List MsrpRow) (turn : MsrpR
   pub told : b.broken.fault ≡ fault
   pub due : length rows < plan.cores * plan.ticks → is_in_turn plan rows b.row ≡ true → IsSomeAnd b.broken.expected (IsNextRow plan rows b.row.core.0)
 
+-- what an auditor that was fed good rows reports of a row that isn't
 abbrev pub Breaks : PlanModel → AuditorModel → MsrpRow → Finding → Option BrokenRow → Type 0
 Breaks plan old turn found broken = (turns : List MsrpRow) → old.plan ≡ plan → AreGood plan turns old → (fault : Fault) → found ≡ Ok (Err fault) → IsSomeAnd broken (IsBrokenAfter plan turns turn fault)
 

@@ -1,7 +1,6 @@
 -- A run on the caller's threads: what its calls hand out, join and report.
 use Rattle.std.specs.Prelude.{◌≡◌, ◌⊎◌, ◌<◌, ◌+◌, ◌++◌, ◌∷◌}
-use Rattle.msrp_plan.specs.Common.{ℕ, List, [], Option, Some, None, length, IfSome, IsSomeAnd, log_of, IsRun, PlanModel, Result}
-use Rattle.std.specs.declared.result.Result.TheVariants.{Ok, Err}
+use Rattle.msrp_plan.specs.Common.{ℕ, List, [], Option, Some, None, length, IfSome, IsSomeAnd, log_of, IsRun, PlanModel, Result, Ok, Err}
 use Rattle.msrp_engine.specs.declared.made.Made.{Made}
 use Rattle.msrp_faults.specs.declared.faults.CliFault.{CliFault}
 use Rattle.msrp_faults.specs.declared.faults.CliFault.TheVariants.{Memory, Usage}
@@ -26,6 +25,7 @@ pub record IsNewRun (plan : PlanModel) (run : HostedRunModel) : Type 0 where
   pub handed : run.handed ≡ 0
   pub joined : run.joined ≡ []
 
+-- the handle holds a new run of the plan
 abbrev pub HoldsNewRun : PlanModel → Option Content → Type 0
 HoldsNewRun plan held = IsSomeAnd (open_in held) (IsNewRun plan)
 

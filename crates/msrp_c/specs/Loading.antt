@@ -1,7 +1,6 @@
 -- A loaded plan, or why there is none.
 use Rattle.std.specs.Prelude.{◌≡◌}
-use Rattle.msrp_plan.specs.Common.{Result, PlanModel}
-use Rattle.std.specs.declared.result.Result.TheVariants.{Ok, Err}
+use Rattle.msrp_plan.specs.Common.{Result, PlanModel, Ok, Err}
 use Rattle.msrp_faults.specs.Outcomes.{fault_of}
 use Rattle.msrp_faults.specs.declared.faults.CliFault.{CliFault}
 use Rattle.msrp_text.specs.declared.reading.TextError.{TextError}

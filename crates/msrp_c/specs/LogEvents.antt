@@ -23,6 +23,7 @@ step_number Poll = 11
 abbrev pub steps : List LockAction
 steps = Lock ∷ Unlock ∷ Request ∷ Acquire ∷ Freed ∷ Poll ∷ []
 
+-- the kind of this number
 abbrev pub step_numbered : ℕ → Option LockAction
 step_numbered kind = find (λ step. kind == step_number step) steps
 
@@ -38,9 +39,11 @@ action_of_job e j =
     else if e.kind == 8 then Some (End j)
     else step_of j (step_numbered e.kind) (numbered e.resource)
 
+-- what an event with a job reports
 abbrev pub action_with : MsrpLogEvent → Option JobId → Option Action
 action_with e job = if e.kind == 2 then Some (Switch job) else option_and_then (action_of_job e) job
 
+-- what an event reports
 abbrev pub action_of : MsrpLogEvent → Option Action
 action_of e =
     if e.kind == 0 then Some Boot

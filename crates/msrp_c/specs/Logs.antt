@@ -1,7 +1,6 @@
 -- An auditor of a kernel's log that is fed event by event.
 use Rattle.std.specs.Prelude.{◌≡◌, ◌↔◌}
-use Rattle.msrp_plan.specs.Common.{ℕ, Bool, true, List, [], Option, Some, None, IsSomeAnd, ⊤, Result, PlanModel}
-use Rattle.std.specs.declared.result.Result.TheVariants.{Ok, Err}
+use Rattle.msrp_plan.specs.Common.{ℕ, Bool, true, List, [], Option, Some, None, IsSomeAnd, ⊤, Result, PlanModel, Ok, Err}
 use Rattle.msrp_event_audit.specs.Auditors.{AuditorModel, HasFed}
 use Rattle.msrp_events.specs.declared.events.Event.{Event}
 use Rattle.msrp_events.specs.declared.findings.Finding.{Finding as LogFinding}
@@ -18,6 +17,7 @@ use Rattle.msrp_c.specs.declared.answers.MsrpFound.{MsrpFound}
 use Rattle.msrp_c.specs.declared.content.Content.{Content}
 use Rattle.msrp_c.specs.declared.logs.MsrpTolerances.{MsrpTolerances}
 
+-- the tolerances, from their numbers
 abbrev pub tolerances_of : MsrpTolerances → Tolerances
 tolerances_of t = record { operation = t.operation; slack = t.slack; skew = t.skew; backlog = t.backlog }
 
@@ -52,12 +52,14 @@ log_numbers (Some (Err (Fault rule))) = record nothing { rule = log_rule_number 
 log_numbers (Some (Err (Incomplete missing))) = record nothing { trace_code = missing_number missing }
 log_numbers _ = nothing
 
+-- a good log, a fault, something missing, and wrong use
 abbrev pub log_status : Option (Result ⊤ LogFinding) → ℕ
 log_status (Some (Ok good)) = 0
 log_status (Some (Err (Fault rule))) = 1
 log_status (Some (Err (Incomplete missing))) = 2
 log_status None = 3
 
+-- a call answers with these numbers and this status
 pub record TellsLog (what : Option (Result ⊤ LogFinding)) (found : MsrpFound) (status : ℕ) : Type 0 where
   pub numbers : found ≡ log_numbers what
   pub status_is : status ≡ log_status what
@@ -69,6 +71,7 @@ pub record IsFedLog (system : PlanModel) (tolerances : Tolerances) (events : Lis
   pub tolerances_are : a.tolerances ≡ tolerances
   pub fed : HasFed a events
 
+-- the handle holds an auditor of logs that was fed these events
 abbrev pub HoldsLog : PlanModel → Tolerances → List Event → Option Content → Type 0
 HoldsLog system tolerances events held = IsSomeAnd (log_in held) (IsFedLog system tolerances events)
 

@@ -1,7 +1,6 @@
 -- What is made of a plan, and put into a handle.
 use Rattle.std.specs.Prelude.{◌≡◌, ◌↔◌}
-use Rattle.msrp_plan.specs.Common.{ℕ, Bool, Option, Some, None, true, false, Result, PlanModel}
-use Rattle.std.specs.declared.result.Result.TheVariants.{Ok, Err}
+use Rattle.msrp_plan.specs.Common.{ℕ, Bool, Option, Some, None, true, false, Result, PlanModel, Ok, Err}
 use Rattle.msrp_engine.specs.Answered.{OrUnread}
 use Rattle.msrp_faults.specs.Outcomes.{fault_of}
 use Rattle.msrp_faults.specs.declared.faults.CliFault.{CliFault}
@@ -41,6 +40,7 @@ pub record OpensNew (IsNew : PlanModel → Option Content → Type 0) (long : Bo
   pub none : (status ≡ 0 → ⊥) → held ≡ None
   pub too_long : (status ≡ 5) ↔ (long ≡ true)
 
+-- what a call puts into a handle: it is wrong use if the handle held something
 abbrev pub Opens : (PlanModel → Option Content → Type 0) → Bool → Result PlanModel TextError → Option Content → Option Content → MsrpFound → ℕ → Type 0
 Opens IsNew long expected None new found status = OpensNew IsNew long expected new found status
 Opens IsNew long expected (Some used) new found status = IsMisuse (Some used) new found status

@@ -1,7 +1,6 @@
 -- The picture of a trace, in the style of a number.
 use Rattle.std.specs.Prelude.{◌≡◌}
-use Rattle.msrp_plan.specs.Common.{ℕ, List, Option, Some, None, Result, PlanModel}
-use Rattle.std.specs.declared.result.Result.TheVariants.{Err}
+use Rattle.msrp_plan.specs.Common.{ℕ, List, Option, Some, None, Result, PlanModel, Err}
 use Rattle.msrp_view_engine.specs.Answers.{IsDrawingOf}
 use Rattle.msrp_view_engine.specs.declared.view.Drawing.TheVariants.{Picture}
 use Rattle.msrp_faults.specs.declared.faults.CliFault.{CliFault}

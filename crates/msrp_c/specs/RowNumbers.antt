@@ -12,6 +12,7 @@ abbrev pub or_none_number : Option ℕ → ℕ
 or_none_number None = none_number
 or_none_number (Some number) = number
 
+-- a row as numbers
 abbrev pub numbers_of_row : Row → MsrpRow
 numbers_of_row r = record {
   tick = r.tick;
@@ -23,5 +24,6 @@ numbers_of_row r = record {
   ahead = or_none_number r.ahead;
 }
 
+-- a place as a number
 abbrev pub place_number : Option Place → ℕ
 place_number place = or_none_number (option_map (λ (p : Place). p.number) place)

@@ -1,9 +1,8 @@
 -- The texts made of a plan's text.
 use Rattle.std.specs.Prelude.{◌≡◌, ◌⊎◌}
-use Rattle.msrp_plan.specs.Common.{ℕ, List, Option, Some, None, Result, PlanModel, IsOrder}
+use Rattle.msrp_plan.specs.Common.{ℕ, List, Option, Some, None, Result, PlanModel, IsOrder, Ok, Err}
 use Rattle.msrp_plan.specs.declared.rows.Row.{Row}
 use Rattle.msrp_plan.specs.declared.rows.TextVersion.{TextVersion}
-use Rattle.std.specs.declared.result.Result.TheVariants.{Ok, Err}
 use Rattle.msrp_faults.specs.Outcomes.{fault_of}
 use Rattle.msrp_faults.specs.declared.faults.CliFault.{CliFault}
 use Rattle.msrp_faults.specs.declared.faults.CliFault.TheVariants.{Usage, Memory, Read}

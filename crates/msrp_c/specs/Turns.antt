@@ -1,6 +1,6 @@
 -- Rows as numbers, and the verdict on them.
 use Rattle.std.specs.Prelude.{◌+◌, ◌==◌, if◌then◌else◌}
-use Rattle.msrp_plan.specs.Common.{ℕ, Bool, List, Option, Some, None, option_map, slice_get, map, ⊤, filter_map, prefix_len, option_and_then, Result, PlanModel, fault_in, verdict}
+use Rattle.msrp_plan.specs.Common.{ℕ, Bool, List, Option, Some, None, option_map, slice_get, map, ⊤, filter_map, prefix_len, option_and_then, Result, PlanModel, fault_in, verdict, Ok, Err}
 use Rattle.msrp_plan.specs.declared.faults.Fault.{Fault}
 use Rattle.msrp_plan.specs.declared.ids.JobId.{JobId}
 use Rattle.msrp_plan.specs.declared.rows.Kind.{Kind}
@@ -8,7 +8,6 @@ use Rattle.msrp_plan.specs.declared.rows.Kind.TheVariants.{Idle, Run, Lock, Unlo
 use Rattle.msrp_plan.specs.declared.rows.Row.{Row}
 use Rattle.std.specs.List.{find, take_while}
 use Rattle.std.specs.Result.{is_ok, result_ok}
-use Rattle.std.specs.declared.result.Result.TheVariants.{Ok, Err}
 use Rattle.msrp_engine.specs.Findings.{found_first}
 use Rattle.msrp_faults.specs.Outcomes.{fault_of}
 use Rattle.msrp_faults.specs.declared.faults.CliFault.{CliFault}
@@ -27,6 +26,7 @@ use Rattle.msrp_c.specs.declared.turns.MsrpRow.{MsrpRow}
 abbrev pub none_number : ℕ
 none_number = 4294967295
 
+-- a number that may be missing
 abbrev pub numbered : ℕ → Option ℕ
 numbered number = if number == none_number then None else Some number
 
@@ -42,6 +42,7 @@ kind_number Spin = 6
 kind_number Grant = 7
 kind_number Release = 8
 
+-- the kind of this number
 abbrev pub kind_numbered : ℕ → Option Kind
 kind_numbered number = find (λ kind. number == kind_number kind) kinds
 
@@ -62,6 +63,7 @@ abbrev pub named_row : PlanModel → Option Row → Result Row TraceFault
 named_row plan None = Err Shape
 named_row plan (Some r) = if is_named plan r then Ok r else Err Name
 
+-- the row of the numbers, if they have a kind
 abbrev pub row_of_kind : PlanModel → MsrpRow → Option Kind → Result Row TraceFault
 row_of_kind plan turn None = Err UnknownKind
 row_of_kind plan turn (Some kind) = named_row plan (shaped_row turn kind (job_numbered (numbered turn.task) (numbered turn.job)))

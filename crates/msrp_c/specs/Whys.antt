@@ -34,6 +34,7 @@ AreWords text words = OrUnread words (IsOkAnd words (λ made. made.found ≡ pla
 abbrev pub HandsWords : Result Words CliFault → List ℕ → List ℕ → ℕ → MsrpFound → ℕ → Type 0
 HandsWords words old new needed found status = HandsOver (refusal_in words) (words_in words) old new needed found status
 
+-- a call answers with words, and with what was refused
 abbrev pub AnswersWords : Bool → (Result Words CliFault → Type 0) → List ℕ → List ℕ → ℕ → MsrpFound → ℕ → Type 0
 AnswersWords long AreMade old new needed found status = Gives refusal_in words_in long AreMade old new needed found status
 
@@ -45,6 +46,7 @@ AreReasonsFor (Ok (Ok good)) text = text ≡ []
 AreReasonsFor (Ok (Err fault)) text = (rest : List ℕ) × (text ≡ verdict_text (Err fault) ++ rest)
 AreReasonsFor (Err fault) text = ⊤
 
+-- the words on a finding, or too little memory for them
 abbrev pub AreReasons : Result (Result ⊤ Fault) CliFault → Result Words CliFault → Type 0
 AreReasons found (Ok words) = (words.found ≡ found) × AreReasonsFor found words.text.items
 AreReasons found (Err fault) = fault ≡ Memory

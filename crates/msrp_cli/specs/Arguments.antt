@@ -28,6 +28,7 @@ wanted name = record (new_rule name) { required = true }
 abbrev pub source_of : Text → List Row → Option ValueSource
 source_of id rows = option_and_then (λ row. row.source) (find (λ row. bytes_eq row.id id) rows)
 
+-- the value was given on the command line
 abbrev pub is_from_words : Option ValueSource → Bool
 is_from_words (Some CommandLine) = true
 is_from_words _ = false
@@ -41,6 +42,7 @@ abbrev pub both_of : Option Text → Option Text → Option (Text × Text)
 both_of (Some plan) (Some trace) = if bytes_eq plan (codes "-") && bytes_eq trace (codes "-") then None else Some (plan, trace)
 both_of _ _ = None
 
+-- the paths of the plan and the trace that were found
 abbrev pub paths_of : List Row → Option (Text × Text)
 paths_of rows = both_of (first_of (codes "PLAN") rows) (first_of (codes "TRACE") rows)
 

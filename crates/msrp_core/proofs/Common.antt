@@ -2,7 +2,7 @@
 pub use Rattle.msrp_core.specs.Active.{ActiveJob, AreActive, AreDistinct, AreLocal, AwaitsGlobal, HoldSo, HoldsLocal, HoldsSo, IsActiveJob, active_of, advanced, done_in, is_active, is_holding_phase, is_kept, is_newest, is_waiting_phase, started_job, state_in}
 pub use Rattle.msrp_core.specs.CoreJobs.{Acts, ActsFor, AreJobs, AreOfCore, AreToldBy, CanAct, IsCurrent, IsNextUnit, IsRunning, IsSamePlace, IsTurnOf, active_in, is_preferred, rising_of, started_with, state_of, units_done}
 pub use Rattle.msrp_core.specs.CoreStates.{IsCoreState}
-pub use Rattle.msrp_core.specs.Machine.{IsRefused, MachineModel, RepeatsOnly, StandsAfter}
+pub use Rattle.msrp_core.specs.Machine.{IsMachineTurn, IsRefused, MachineModel, RepeatsOnly, StandsAfter}
 pub use Rattle.msrp_core.specs.MachineView.{IsMachineView, Repeats, Spins, machine_view}
 pub use Rattle.msrp_core.specs.Repeats.{CanRepeat, HasWorkLeft, Polls, kind_again, row_again, spin_again, spin_of}
 pub use Rattle.msrp_core.specs.declared.actions.Action.{Action}

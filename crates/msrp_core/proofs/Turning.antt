@@ -128,7 +128,7 @@ module _ (old mid new : Jobs) (chosen : Option JobId) (tick : ℕ) (r : Row) (lo
   turn_phase e = phase_after_turn mid new chosen tick r acts ∙ (ap (λ p. phase_with p r.kind r.res) (same.phase ∙ e) ∙ sym (fold_push (λ (p : Phase) (w : Row). phase_with p w.kind w.res) Free log r))
 
 -- ---- the row
--- what acts, once it is chosen and perhaps started, does what the jobs as they were before have next
+-- what acts, once chosen and perhaps started, does what the jobs as they were before have next
 module _ (old mid : Jobs) (fit : AreJobs mid) (same : IsSamePlace old mid) where
   plan_before : mid.plan.now ≡ old.plan.now
   plan_before = ap (λ p. p.now) same.plan

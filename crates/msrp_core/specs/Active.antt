@@ -18,9 +18,11 @@ active_of [] done = []
 active_of (s ∷ started) [] = []
 active_of (s ∷ started) (n ∷ done) = record { job = s.job; held = s.held; done = n } ∷ active_of started done
 
+-- a started job without its number of units
 abbrev pub started_job : ActiveJob → StartedJob
 started_job s = record { job = s.job; held = s.held }
 
+-- the job is active
 abbrev pub is_active : List ActiveJob → JobId → Bool
 is_active active j = list_any (λ s. same_job j s.job) active
 
@@ -33,14 +35,17 @@ abbrev pub done_in : PlanModel → List ActiveJob → JobId → ℕ
 done_in plan [] j = length (units plan j)
 done_in plan (s ∷ active) j = if same_job j s.job then s.done else done_in plan active j
 
+-- the phase of a core that waits for a resource
 abbrev pub is_waiting_phase : Phase → Bool
 is_waiting_phase (Queued g) = true
 is_waiting_phase _ = false
 
+-- the phase of a core that holds this resource
 abbrev pub is_holding_phase : ResId → Phase → Bool
 is_holding_phase g (Holding h) = h.0 == g.0
 is_holding_phase _ _ = false
 
+-- the job is the newest of the active ones
 abbrev pub is_newest : List ActiveJob → JobId → Bool
 is_newest [] j = false
 is_newest (s ∷ below) j = same_job j s.job
@@ -76,6 +81,7 @@ AreLocal plan held = (g : ℕ) → list_any (nat_eq g) held ≡ true → is_glob
 abbrev pub HoldsSo : PlanModel → ActiveJob → Type 0
 HoldsSo plan s = held_after (take s.done (units plan s.job)) ≡ Some s.held
 
+-- an active job holds what its units hold, all of it local
 pub record HoldsLocal (plan : PlanModel) (s : ActiveJob) : Type 0 where
   pub now : HoldsSo plan s
   pub locals : AreLocal plan s.held

@@ -16,6 +16,7 @@ units_done jobs = jobs.progress ∷ reverse jobs.below.items
 abbrev pub active_in : Jobs → List ActiveJob
 active_in jobs = active_of jobs.stack.started (units_done jobs)
 
+-- how far a job of the core is
 abbrev pub state_of : Jobs → JobId → JobState
 state_of jobs j = state_in jobs.plan.now jobs.ready.taken jobs.phase (active_in jobs) j
 
@@ -114,6 +115,7 @@ pub record Idles (old new : Jobs) (tick : ℕ) (r : Row) : Type 0 where
   pub row_res : r.res ≡ None
   pub kind : r.kind ≡ Idle
 
+-- the chosen job acts, or the core idles
 abbrev pub ActsFor : Jobs → Jobs → Option JobId → ℕ → Row → Type 0
 ActsFor old new None tick r = Idles old new tick r
 ActsFor old new (Some job) tick r = Acts old new job tick r

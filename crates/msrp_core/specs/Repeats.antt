@@ -38,5 +38,6 @@ pub record Polls (jobs : Jobs) (r : Row) (poll : Poll) : Type 0 where
 abbrev pub spin_of : ℕ → CoreId → Poll → Row
 spin_of t core poll = record { tick = t; core = core; kind = Spin; job = Some poll.job; res = Some poll.res; ahead = None; shape = refl; carrier = refl }
 
+-- the row in which the core spins on, if it polls
 abbrev pub spin_again : ℕ → CoreId → Option Poll → Option Row
 spin_again t core poll = option_map (spin_of t core) poll

@@ -5,7 +5,7 @@ ghost use Rattle.msrp_plan.specs.declared.ids.ResId.{ResId as Resource};
 ghost use Rattle.msrp_plan.specs.declared.rows.Row.{Row as TraceRow};
 ghost use Rattle.msrp_core.specs.Ports.{claim_in, IsQuiet, MakesCall};
 ghost use Rattle.msrp_core.specs.CoreStates.{IsCoreState};
-ghost use Rattle.msrp_core.specs.Machine.{IsRefused, RepeatsOnly, StandsAfter};
+ghost use Rattle.msrp_core.specs.Machine.{IsMachineTurn, IsRefused, RepeatsOnly, StandsAfter};
 
 use crate::jobs::Jobs;
 use crate::port::Port;
@@ -124,14 +124,9 @@ impl<'a> Machine<'a> {
         ensures none { IfNone result (self.new ≡ self.old) }
         ensures left { IfSome result (λ _. self.old.tick < self.old.plan.ticks) }
         ensures known { result ≡ self.old.again }
-        ensures again { IfSome result (RepeatsOnly self.new) }
-        ensures plan { self.new.plan ≡ self.old.plan }
-        ensures core { self.new.core ≡ self.old.core }
         ensures phase { self.new.phase ≡ self.old.phase }
-        ensures tick { IfSome result (λ _. self.new.tick ≡ self.old.tick + 1) }
         ensures res { IfSome result (λ row. row.res ≡ None) }
-        ensures row { IfSome result (λ row. (log : List TraceRow) → StandsAfter self.old log → IsCoreTurn self.old.plan self.old.core log row) }
-        ensures stands { IfSome result (λ row. (log : List TraceRow) → StandsAfter self.old log → StandsAfter self.new (log ++ row ∷ [])) }
+        ensures turn { IfSome result (IsMachineTurn self.old self.new) }
     {
         if self.again == 0 {
             return None;
@@ -162,14 +157,9 @@ impl<'a> Machine<'a> {
         requires tick { self.old.tick < self.old.plan.ticks }
         ensures none { IfNone result (self.new ≡ self.old) }
         ensures known { result ≡ self.old.spin }
-        ensures again { IfSome result (RepeatsOnly self.new) }
-        ensures plan { self.new.plan ≡ self.old.plan }
-        ensures core { self.new.core ≡ self.old.core }
         ensures phase { self.new.phase ≡ self.old.phase }
-        ensures tick { IfSome result (λ _. self.new.tick ≡ self.old.tick + 1) }
         ensures spin { IfSome result (IsRefused self.old) }
-        ensures row { IfSome result (λ row. (log : List TraceRow) → StandsAfter self.old log → IsCoreTurn self.old.plan self.old.core log row) }
-        ensures stands { IfSome result (λ row. (log : List TraceRow) → StandsAfter self.old log → StandsAfter self.new (log ++ row ∷ [])) }
+        ensures turn { IfSome result (IsMachineTurn self.old self.new) }
     {
         let poll = self.poll?;
         let now = self.tick;

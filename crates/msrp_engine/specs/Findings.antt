@@ -1,7 +1,6 @@
 -- What an audit of a trace's text finds: a verdict on its rows, or a refusal.
-use Rattle.msrp_plan.specs.Common.{ℕ, List, Option, Some, None, ⊤, Result, PlanModel, fault_in, verdict}
+use Rattle.msrp_plan.specs.Common.{ℕ, List, Option, Some, None, ⊤, Result, PlanModel, fault_in, verdict, Ok, Err}
 use Rattle.msrp_plan.specs.declared.faults.Fault.{Fault}
-use Rattle.std.specs.declared.result.Result.TheVariants.{Ok, Err}
 use Rattle.msrp_audit.specs.Audits.{answer_of}
 use Rattle.msrp_text.specs.declared.reading.TextError.{TextError}
 use Rattle.msrp_trace.specs.Reading.{Told, rows_of}

@@ -1,7 +1,6 @@
 -- The verdict on the rows of a text.
-use Rattle.msrp_plan.specs.Common.{⊤, Result}
+use Rattle.msrp_plan.specs.Common.{⊤, Result, Ok, Err}
 use Rattle.msrp_plan.specs.declared.faults.Fault.{Fault}
-use Rattle.std.specs.declared.result.Result.TheVariants.{Ok, Err}
 use Rattle.msrp_faults.specs.declared.faults.CliFault.{CliFault}
 use Rattle.msrp_engine.specs.declared.made.Made.{Made}
 

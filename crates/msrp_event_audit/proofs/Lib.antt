@@ -4,3 +4,4 @@ pub mod Following
 pub mod Accepted
 pub mod Moving
 pub mod Feeding
+pub mod StartFacts

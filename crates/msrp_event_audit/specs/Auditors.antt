@@ -27,9 +27,11 @@ abbrev pub answer_of : Option Finding → Result ⊤ Finding
 answer_of None = Ok tt
 answer_of (Some finding) = Err finding
 
+-- what a clause sees of an auditor
 abbrev pub auditor_view : Inside → AuditorModel
 auditor_view a = record { system = a.system.now; tolerances = a.tolerances; state = state_of a.state; finding = a.finding }
 
+-- what the fields of an auditor hold
 pub record IsAuditorView (a : Inside) : Type 0 where
   pub system : IsSystem a.system.now
   pub fits : Fits a.system.now (state_of a.state)

@@ -1,3 +1,5 @@
 pub mod LogJobs
 pub mod States
+pub mod StartStates
 pub mod Auditors
+pub mod Examples

@@ -10,6 +10,7 @@ use Rattle.msrp_events.specs.declared.states.LiveJob.{LiveJob}
 use Rattle.msrp_event_audit.specs.LogJobs.{IsKnown}
 use Rattle.msrp_event_audit.specs.declared.states.State.{State}
 
+-- the state of the definitions, from the fields
 abbrev pub state_of : State → LogState
 state_of s = record { jobs = s.jobs.items; cores = s.cores.items; free = s.free.items; next = s.next.items; stopped = s.stopped }
 
@@ -23,6 +24,7 @@ pub record Fits (system : PlanModel) (s : LogState) : Type 0 where
 abbrev pub CanStep : List LiveJob → JobId → Type 0
 CanStep jobs j = (i : ℕ) → place_of jobs j ≡ Some i → (slice_index_or jobs i no_job).step + 1 < 2 ^ 32
 
+-- there is room for the action, and its job is known
 abbrev pub CanChange : Action → List LiveJob → ℕ → Type 0
 CanChange (Release j deadline) jobs room = length jobs < room
 CanChange (Step kind j r) jobs room = CanStep jobs j

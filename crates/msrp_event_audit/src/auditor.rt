@@ -1,13 +1,15 @@
 //! The auditor, event by event.
 ghost use Rattle.std.specs.Prelude.{◌≡◌, ◌++◌, ◌∷◌};
-ghost use Rattle.msrp_plan.specs.Common.{[], List, IfOk, Some, None, Err};
+ghost use Rattle.msrp_plan.specs.Common.{[], List, IfOk, Some, None, Ok, Err};
 ghost use Rattle.msrp_events.specs.Changes.{idle_core, state_with};
 ghost use Rattle.msrp_events.specs.Findings.{finding_in, finding_of};
 ghost use Rattle.msrp_events.specs.declared.events.Event.{Event as LogEvent};
 ghost use Rattle.msrp_events.specs.declared.findings.Finding.{Finding as Found};
 ghost use Rattle.msrp_event_audit.specs.Auditors.{HasFed, answer_of};
+ghost use Rattle.msrp_event_audit.specs.StartStates.{CanStore, IsFactOf, with_fact};
 
 use crate::changes::apply;
+use crate::facts::{Fact, Impossible, lacking, problem_of, store};
 use crate::findings::finding_of;
 use crate::states::State;
 use msrp_events::{CoreLog, Event, Finding, Tolerances};
@@ -69,6 +71,7 @@ impl<'a> LogAuditor<'a> {
         ensures system { IfOk result (λ auditor. auditor.system ≡ system.now) }
         ensures tolerances { IfOk result (λ auditor. auditor.tolerances ≡ tolerances) }
         ensures fed { IfOk result (λ auditor. HasFed auditor []) }
+        ensures none { IfOk result (λ auditor. auditor.finding ≡ None) }
     {
         let jobs = Vec::with_capacity(alloc, tolerances.backlog as usize)?;
         let cores = vec![in alloc; idle_core(); system.cores() as usize]?;
@@ -88,6 +91,37 @@ impl<'a> LogAuditor<'a> {
         })
     }
 
+    /// One fact more of the state with which the log begins, before any event; or why no state has
+    /// it. It takes no memory.
+    pub fn assume(&mut self, fact: Fact) -> Result<(), Impossible>
+        ensures system { self.new.system ≡ self.old.system }
+        ensures tolerances { self.new.tolerances ≡ self.old.tolerances }
+        ensures finding { self.new.finding ≡ self.old.finding }
+        ensures state { result ≡ Ok tt → self.new.state ≡ with_fact self.old.state fact }
+    {
+        match problem_of(self.system, self.tolerances, &self.state, fact) {
+            Some(why) => Err(why),
+            None => {
+                self.note(fact);
+                Ok(())
+            }
+        }
+    }
+
+    // A fact that a state can have.
+    fn note(&mut self, fact: Fact)
+        requires can { CanStore fact self.old.state self.old.tolerances.backlog }
+        requires known { IsFactOf self.old.system fact }
+        ensures { self.new ≡ record self.old { state = with_fact self.old.state fact } }
+    {
+        store(&mut self.state, fact);
+    }
+
+    /// Why the facts so far describe no state, if they don't.
+    pub fn lacking(&self) -> Option<Impossible> {
+        lacking(self.system, &self.state)
+    }
+
     /// The next event: what the events so far show first, if they show anything. After that the
     /// answer stays the
     /// same. It takes no memory.
@@ -96,6 +130,7 @@ impl<'a> LogAuditor<'a> {
         ensures tolerances { self.new.tolerances ≡ self.old.tolerances }
         ensures fed { (events : List LogEvent) → HasFed self.old events → HasFed self.new (events ++ event ∷ []) }
         ensures answer { (events : List LogEvent) → HasFed self.old events → result ≡ answer_of (finding_in self.old.system self.old.tolerances (events ++ event ∷ [])) }
+        ensures none { result ≡ Ok tt → self.new.finding ≡ None }
         ensures same { (found : Found) → self.old.finding ≡ Some found → result ≡ Err found }
         ensures kept { (found : Found) → result ≡ Err found → self.new.state ≡ self.old.state }
     {
@@ -112,6 +147,7 @@ impl<'a> LogAuditor<'a> {
         ensures tolerances { self.new.tolerances ≡ self.old.tolerances }
         ensures fed { (events : List LogEvent) → HasFed self.old events → HasFed self.new (events ++ event ∷ []) }
         ensures answer { (events : List LogEvent) → HasFed self.old events → result ≡ answer_of (finding_in self.old.system self.old.tolerances (events ++ event ∷ [])) }
+        ensures none { result ≡ Ok tt → self.new.finding ≡ None }
         ensures kept { (found : Found) → result ≡ Err found → self.new.state ≡ self.old.state }
     {
         match self.shows(event) {

@@ -34,6 +34,20 @@ impl<'a> LogAuditor<'a> {
         self.state.jobs.as_slice()
     }
 
+    /// What is known of the cores.
+    pub fn cores(&self) -> &[CoreLog]
+        ensures { result.now ≡ self.now.state.cores }
+    {
+        self.state.cores.as_slice()
+    }
+
+    /// Whether the log has stopped.
+    pub fn is_stopped(&self) -> bool
+        ensures { result ≡ self.now.state.stopped }
+    {
+        self.state.stopped
+    }
+
     /// What is known of a core, if the system has it.
     pub fn core(&self, core: CoreId) -> Option<CoreLog>
         ensures { result ≡ slice_get self.now.state.cores core.0 }

@@ -9,12 +9,15 @@
 mod auditor;
 mod changes;
 mod choices;
+mod facts;
 mod findings;
 mod jobs;
 mod known;
 mod rules;
 mod states;
+pub mod worked;
 
 pub use auditor::LogAuditor;
 pub use choices::{ceiling, choice, first_of};
+pub use facts::{Fact, Impossible};
 pub use jobs::{awaits, holds, live_job, next_unit};

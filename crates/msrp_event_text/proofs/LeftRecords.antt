@@ -1,15 +1,18 @@
 -- The verdict on the records that are left, one record after another.
-use Rattle.std.proofs.Common.{◌≡◌, ◌+◌, ◌++◌, ◌∷◌, ◌∙◌, if◌then◌else◌}
-use Rattle.msrp_plan.proofs.Common.{ℕ, Bool, true, false, List, [], Option, Some, None, Result, Ok, Err, refl, ap, sym, subst, inl, inr, PlanModel}
+use Rattle.std.proofs.Common.{◌≡◌, ◌<◌, ◌+◌, ◌++◌, ◌∷◌, ◌∙◌, if◌then◌else◌}
+use Rattle.msrp_plan.proofs.Common.{ℕ, Bool, true, false, List, [], Option, Some, None, Result, Ok, Err, refl, ap, sym, subst, inl, inr, get_or, length, map, replicate, take, zero, suc, PlanModel}
+use Rattle.std.proofs.lemmas.List.{map_more}
 use Rattle.msrp_text.specs.Records.{GivesNext}
+use Rattle.msrp_events.specs.Changes.{LogState, first_state, idle_core}
 use Rattle.msrp_events.specs.Findings.{finding_in}
 use Rattle.msrp_events.specs.declared.events.Event.{Event}
 use Rattle.msrp_events.specs.declared.findings.Finding.{Finding}
 use Rattle.msrp_events.specs.declared.findings.LogRule.{LogRule}
 use Rattle.msrp_events.specs.declared.findings.Missing.TheVariants as missing
+use Rattle.msrp_events.specs.declared.states.CoreLog.{CoreLog}
 use Rattle.msrp_events.specs.declared.states.Tolerances.{Tolerances}
 use Rattle.msrp_event_text.specs.LogEvents.{event_of}
-use Rattle.msrp_event_text.specs.LogVerdicts.{Answers, record_shows, events_with, numbers_by, decided_or, settled, verdict_from, is_certain, record_loses, told_by, after_record, confirmed_from, is_head, no_numbers, verdict_of}
+use Rattle.msrp_event_text.specs.LogVerdicts.{Answers, awaited_in, awaited_of, record_shows, events_with, numbers_by, decided_or, settled, verdict_from, is_certain, record_loses, told_by, after_record, confirmed_from, is_head, no_numbers, verdict_after}
 use Rattle.msrp_event_text.specs.declared.confirming.Awaited.{Awaited}
 use Rattle.msrp_event_text.specs.declared.verdicts.LogVerdict.{LogVerdict}
 use Rattle.msrp_event_text.specs.declared.verdicts.LogVerdict.TheVariants.{Fault, Unconfirmed, Incomplete}
@@ -89,8 +92,19 @@ confirmed-decided system rule number at awaited left fields rest h one loses sho
     ∙ ap (λ it. after_record it (Ok (Incomplete missing.Records at)) (confirmed_from system rule number (at + 1) (told_by awaited (event_of system fields)) rest)) shows)
 
 -- ---- the first record
-pub head-wrong : (system : PlanModel) (tolerances : Tolerances) (head : List (List ℕ)) (rest : List (List (List ℕ))) → is_head system head ≡ false → verdict_of system tolerances (head ∷ rest) ≡ Err Head
-head-wrong system tolerances head rest h = ap (λ b. if b then verdict_from system tolerances 2 [] (no_numbers system) rest else Err Head) h
+pub head-wrong : (system : PlanModel) (tolerances : Tolerances) (start : List Event) (cores : List Awaited) (head : List (List ℕ)) (rest : List (List (List ℕ))) → is_head system head ≡ false → verdict_after system tolerances start cores (head ∷ rest) ≡ Err Head
+head-wrong system tolerances start cores head rest h = ap (λ b. if b then verdict_from system tolerances 2 start cores rest else Err Head) h
 
-pub head-right : (system : PlanModel) (tolerances : Tolerances) (head : List (List ℕ)) (rest : List (List (List ℕ))) → is_head system head ≡ true → verdict_of system tolerances (head ∷ rest) ≡ verdict_from system tolerances 2 [] (no_numbers system) rest
-head-right system tolerances head rest h = ap (λ b. if b then verdict_from system tolerances 2 [] (no_numbers system) rest else Err Head) h
+pub head-right : (system : PlanModel) (tolerances : Tolerances) (start : List Event) (cores : List Awaited) (head : List (List ℕ)) (rest : List (List (List ℕ))) → is_head system head ≡ true → verdict_after system tolerances start cores (head ∷ rest) ≡ verdict_from system tolerances 2 start cores rest
+head-right system tolerances start cores head rest h = ap (λ b. if b then verdict_from system tolerances 2 start cores rest else Err Head) h
+
+pub awaited-more : (cores : List CoreLog) (i : ℕ) (done : List Awaited) (a : Awaited) → i < length cores → done ≡ map awaited_of (take i cores) → a ≡ awaited_of (get_or cores i idle_core) → done ++ a ∷ [] ≡ map awaited_of (take (i + 1) cores)
+awaited-more cores i done a l so next = ap (λ all. all ++ a ∷ []) so ∙ (ap (λ b. map awaited_of (take i cores) ++ b ∷ []) next ∙ sym (map_more awaited_of cores i idle_core l))
+
+-- before the first record the boot of each core is awaited
+map_replicate : {X Y : Type 0} (f : X → Y) (n : ℕ) (x : X) → map f (replicate n x) ≡ replicate n (f x)
+map_replicate f zero x = refl
+map_replicate f (suc n) x = ap (λ ys. f x ∷ ys) (map_replicate f n x)
+
+pub first_awaited : (system : PlanModel) (s : LogState) → s ≡ first_state system → awaited_in s ≡ no_numbers system
+first_awaited system s first = ap awaited_in first ∙ map_replicate awaited_of system.cores idle_core

@@ -186,7 +186,7 @@ module _ (system : PlanModel) (first : ℕ → ℕ) where
       by_loss false shows h rest = by_core (e.core.0 == c) refl shows (λ other. rest other h)
 
 -- ---- the events before a fault
--- what is awaited of each core, and what the state knows of it, is what the count of its records says
+-- what is awaited of each core, and what the state knows of it, is what its count of records says
 record Tracks (system : PlanModel) (first : ℕ → ℕ) (s : LogState) (pre : List Event) (cores : List Awaited) : Type 0 where
   pub states : length s.cores ≡ system.cores
   pub awaits : length cores ≡ system.cores

@@ -3,3 +3,5 @@ pub mod LogEvents
 pub mod LogVerdicts
 pub mod Losses
 pub mod Decisions
+pub mod StateTexts
+pub mod Windows

@@ -39,12 +39,15 @@ is_idle fields = has_word fields 3 [] && has_word fields 4 []
 abbrev pub release_of : PlanModel → List (List ℕ) → Option Action
 release_of system fields = option_and_then (λ j. option_map (λ deadline. Release j deadline) (long_number_at fields 6)) (job_of system fields)
 
+-- a switch to a job, or to none
 abbrev pub switch_of : PlanModel → List (List ℕ) → Option Action
 switch_of system fields = if is_idle fields then Some (Switch None) else option_map (λ j. Switch (Some j)) (job_of system fields)
 
+-- the end of a job
 abbrev pub end_of : PlanModel → List (List ℕ) → Option Action
 end_of system fields = option_map (λ j. End j) (job_of system fields)
 
+-- what a job does with a resource, by the word in the third field
 abbrev pub lock_action_of : List (List ℕ) → Option LockAction
 lock_action_of fields =
     if has_word fields 2 (codes "lock") then Some Lock
@@ -55,9 +58,11 @@ lock_action_of fields =
     else if has_word fields 2 (codes "freed") then Some Freed
     else None
 
+-- a job does this with a resource
 abbrev pub step_of : PlanModel → List (List ℕ) → Option Action
 step_of system fields = option_and_then (λ kind. option_map (λ j. Step kind j (res_named system fields)) (job_of system fields)) (lock_action_of fields)
 
+-- what the record reports, by the word in its third field
 abbrev pub action_of : PlanModel → List (List ℕ) → Option Action
 action_of system fields =
     if has_word fields 2 (codes "release") then release_of system fields
@@ -72,6 +77,7 @@ action_of system fields =
 abbrev pub event_at : ℕ → ℕ → Option ℕ → Action → Event
 event_at time core number action = record { time = time; core = record { 0 = core }; number = number; action = action }
 
+-- the event of a record: its time, core, number and action
 abbrev pub event_with : PlanModel → List (List ℕ) → Option Event
 event_with system fields =
     option_and_then (λ time.
@@ -91,6 +97,7 @@ is_event_alone fields = has_word fields 2 (codes "boot") || (has_word fields 2 (
 abbrev pub is_event_of_job : List (List ℕ) → Bool
 is_event_of_job fields = has_word fields 2 (codes "release") || (has_word fields 2 (codes "switch") || (has_word fields 2 (codes "end") || is_some (lock_action_of fields)))
 
+-- the third field is the word of an event
 abbrev pub is_event : List (List ℕ) → Bool
 is_event fields = is_event_alone fields || is_event_of_job fields
 

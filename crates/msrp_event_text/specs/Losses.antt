@@ -14,11 +14,12 @@ AreSome some (x ∷ xs) = AreSome some xs ⊎ ((rest : List _) × (some ≡ x �
 abbrev pub events_of : PlanModel → List (List (List ℕ)) → List Event
 events_of system records = filter_map (event_of system) records
 
+-- the event is in the log of this core
 abbrev pub is_from : ℕ → Event → Bool
 is_from c e = e.core.0 == c
 
--- after these events: the event has the next number of its core, by that of the core's first record,
--- which alone begins the core's log
+-- after these events: the event has the next number of its core, by that of the core's first
+-- record, which alone begins the core's log
 pub record IsNumbered (system : PlanModel) (first : ℕ → ℕ) (before : List Event) (e : Event) : Type 0 where
   pub core : e.core.0 < system.cores
   pub number : e.number ≡ Some (first e.core.0 + count_by (is_from e.core.0) before)

@@ -8,6 +8,7 @@ use Rattle.msrp_text.specs.Fields.{digits_value, has_word}
 abbrev pub is_long_number : List ℕ → Bool
 is_long_number text = is_within 1 19 (length text) && ((length text == 1) || not (slice_index text 0 == 48)) && list_all is_ascii_digit text
 
+-- the value of such a number
 abbrev pub long_number_of : List ℕ → Option ℕ
 long_number_of text = if is_long_number text then Some (digits_value text) else None
 

@@ -13,7 +13,8 @@ use msrp_text::fields::{has_word, name_at, number_at};
 // The number of a task or resource that the system lacks.
 const UNKNOWN: u32 = u32::MAX;
 
-fn task_named(system: &System, fields: &ByteRecord) -> TaskId
+/// The task that a record names.
+pub(crate) fn task_named(system: &System, fields: &ByteRecord) -> TaskId
     ensures { result ≡ task_named system.now (fields_of fields.now) }
 {
     match system.task_of(name_at(fields, 3)) {
@@ -22,7 +23,8 @@ fn task_named(system: &System, fields: &ByteRecord) -> TaskId
     }
 }
 
-fn res_named(system: &System, fields: &ByteRecord) -> ResId
+/// The resource that a record names.
+pub(crate) fn res_named(system: &System, fields: &ByteRecord) -> ResId
     ensures { result ≡ res_named system.now (fields_of fields.now) }
 {
     match system.res_of(name_at(fields, 5)) {
@@ -31,8 +33,8 @@ fn res_named(system: &System, fields: &ByteRecord) -> ResId
     }
 }
 
-// The job that a record names.
-fn job_of(system: &System, fields: &ByteRecord) -> Option<JobId>
+/// The job that a record names.
+pub(crate) fn job_of(system: &System, fields: &ByteRecord) -> Option<JobId>
     ensures { result ≡ job_of system.now (fields_of fields.now) }
 {
     match number_at(fields, 4) {
@@ -44,8 +46,8 @@ fn job_of(system: &System, fields: &ByteRecord) -> Option<JobId>
     }
 }
 
-// Whether a record names no job.
-fn is_idle(fields: &ByteRecord) -> bool
+/// Whether a record names no job.
+pub(crate) fn is_idle(fields: &ByteRecord) -> bool
     ensures { result ≡ is_idle (fields_of fields.now) }
 {
     has_word(fields, 3, b"") && has_word(fields, 4, b"")

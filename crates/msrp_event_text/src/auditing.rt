@@ -8,10 +8,10 @@ ghost use Rattle.msrp_event_audit.specs.Auditors.{HasFed};
 ghost use Rattle.msrp_events.specs.declared.events.Event.{Event as LogEvent};
 ghost use Rattle.msrp_events.specs.declared.findings.Finding.{Finding as Found};
 ghost use Rattle.msrp_event_text.specs.LogEvents.{event_of};
-ghost use Rattle.msrp_event_text.specs.LogVerdicts.{Answers, is_head, is_number, no_numbers, numbers_by, record_shows, settled, told_by, verdict_from, verdict_of};
+ghost use Rattle.msrp_event_text.specs.LogVerdicts.{Answers, awaited_in, is_head, is_number, numbers_by, record_shows, settled, told_by, verdict_after, verdict_from, verdict_of};
 ghost use Rattle.msrp_event_text.specs.Decisions.{IsDecidedBy, shown_at, verdict_in};
 
-use crate::confirming::{Awaited, confirm, no_numbers, note, tell};
+use crate::confirming::{Awaited, awaited_in, confirm, note, tell};
 use crate::events::{event_of, refusal_of};
 use crate::verdicts::{Judged, LogError, LogVerdict, Shown};
 use csv::ByteRecord;
@@ -23,8 +23,8 @@ use msrp_text::records::RecordReader;
 use std::alloc::Global;
 use std::io::Read;
 
-// Whether the field at a place is that number.
-fn is_number(fields: &ByteRecord, i: usize, number: u32) -> bool
+/// Whether the field at a place is that number.
+pub(crate) fn is_number(fields: &ByteRecord, i: usize, number: u32) -> bool
     ensures { result ≡ is_number number (number_at (fields_of fields.now) i) }
 {
     match number_at(fields, i) {
@@ -72,6 +72,7 @@ fn judge_record<W: Watch>(
     ensures told { (found : Found) → result ≡ Ok (Some found) → numbers.new.items ≡ told_by numbers.old.items (event_of system.now (fields_of fields.now)) }
     ensures shown { (events : List LogEvent) → HasFed auditor.old events → result ≡ record_shows system.now auditor.old.tolerances number events (fields_of fields.now) (event_of system.now (fields_of fields.now)) }
     ensures kept { (found : Found) → result ≡ Ok (Some found) → auditor.new.state ≡ auditor.old.state }
+    ensures none { result ≡ Ok None → auditor.new.finding ≡ None }
     ensures fed { (events : List LogEvent) (event : LogEvent) → HasFed auditor.old events → event_of system.now (fields_of fields.now) ≡ Some event → HasFed auditor.new (events ++ event ∷ []) }
 {
     match event_of(system, fields) {
@@ -138,10 +139,10 @@ fn judge_records<R: Read, W: Watch>(
     fields: &mut ByteRecord,
 ) -> Result<Judged, LogError>
     requires system { auditor.old.system ≡ system.now }
-    requires start { HasFed auditor.old [] }
+    requires none { auditor.old.finding ≡ None }
     ensures system { auditor.new.system ≡ auditor.old.system }
-    ensures verdict { (left : List (List (List ℕ))) → records_left R.remaining records.old ≡ Some left → Answers (verdict_in result) (verdict_from system.now auditor.old.tolerances 2 [] numbers.old.items left) }
-    ensures shown { (left : List (List (List ℕ))) → records_left R.remaining records.old ≡ Some left → IfOk result (λ judged. IsDecidedBy system.now auditor.old.tolerances left (fields_of fields.new) auditor.new.state judged) }
+    ensures verdict { (start : List LogEvent) (left : List (List (List ℕ))) → HasFed auditor.old start → records_left R.remaining records.old ≡ Some left → Answers (verdict_in result) (verdict_from system.now auditor.old.tolerances 2 start numbers.old.items left) }
+    ensures shown { (start : List LogEvent) (left : List (List (List ℕ))) → HasFed auditor.old start → records_left R.remaining records.old ≡ Some left → IfOk result (λ judged. IsDecidedBy system.now auditor.old.tolerances start left (fields_of fields.new) auditor.new.state judged) }
 {
     for number in 2..u64::MAX {
         if !records.read(fields)? {
@@ -159,11 +160,11 @@ fn judge_records<R: Read, W: Watch>(
     Err(LogError::Memory)
 }
 
-/// The verdict on the events of a text, and what decides it: the first record with which the events
-/// so far have a finding. `fields` are left as this record's, and the auditor as it was before it.
-/// The first record that is no event is refused. A fault is certain once the log of each core has
-/// begun, and each other core that numbers its records has shown one more, without a gap. Memory is
-/// taken for a few records alone, however long the text is.
+/// The verdict on the events of a text, after those that the auditor was fed, and what decides it:
+/// the first record with which the events so far have a finding. `fields` are left as this record's,
+/// and the auditor as it was before it. The first record that is no event is refused. A fault is
+/// certain once the log of each core has begun, and each other core that numbers its records has
+/// shown one more, without a gap. Memory is taken for a few records alone, however long the text is.
 pub fn judge_log<R: Read + Drop, W: Watch>(
     alloc: Global,
     text: R,
@@ -173,12 +174,12 @@ pub fn judge_log<R: Read + Drop, W: Watch>(
     fields: &mut ByteRecord,
 ) -> Result<Judged, LogError>
     requires system { auditor.old.system ≡ system.now }
-    requires start { HasFed auditor.old [] }
+    requires none { auditor.old.finding ≡ None }
     ensures system { auditor.new.system ≡ auditor.old.system }
-    ensures verdict { (bytes : List ℕ) → R.remaining text ≡ Some bytes → Answers (verdict_in result) (verdict_of system.now auditor.old.tolerances (csv_records bytes)) }
-    ensures shown { (bytes : List ℕ) → R.remaining text ≡ Some bytes → IfOk result (λ judged. IsDecidedBy system.now auditor.old.tolerances (drop 1 (csv_records bytes)) (fields_of fields.new) auditor.new.state judged) }
+    ensures verdict { (start : List LogEvent) (bytes : List ℕ) → HasFed auditor.old start → R.remaining text ≡ Some bytes → Answers (verdict_in result) (verdict_after system.now auditor.old.tolerances start (awaited_in auditor.old.state) (csv_records bytes)) }
+    ensures shown { (start : List LogEvent) (bytes : List ℕ) → HasFed auditor.old start → R.remaining text ≡ Some bytes → IfOk result (λ judged. IsDecidedBy system.now auditor.old.tolerances start (drop 1 (csv_records bytes)) (fields_of fields.new) auditor.new.state judged) }
 {
-    let mut numbers = no_numbers(alloc, system)?;
+    let mut numbers = awaited_in(alloc, auditor)?;
     let mut records = RecordReader::new(alloc, text);
     if !records.read(fields)? || !is_head(system, fields) {
         return Err(LogError::Head);

@@ -5,12 +5,13 @@ ghost use Rattle.msrp_plan.specs.Common.{ℕ, List, Some, IfOk, set};
 ghost use Rattle.csv.specs.Records.{fields_of};
 ghost use Rattle.msrp_text.specs.Records.{records_left};
 ghost use Rattle.msrp_event_text.specs.LogEvents.{event_of};
-ghost use Rattle.msrp_event_text.specs.LogVerdicts.{Answers, confirmed_from, is_boot, is_certain, is_loss, is_lost, is_lost_since, is_told, next_of, no_numbers, numbers_with, record_loses, told, told_by};
+ghost use Rattle.msrp_event_text.specs.LogVerdicts.{Answers, awaited_in, awaited_of, confirmed_from, is_boot, is_certain, is_loss, is_lost, is_lost_since, is_told, next_of, numbers_with, record_loses, told, told_by};
 
 use crate::events::{event_of, refusal_of};
 use crate::verdicts::{LogError, LogVerdict};
 use csv::ByteRecord;
-use msrp_events::{Action, Event, LogRule, Missing};
+use msrp_event_audit::LogAuditor;
+use msrp_events::{Action, CoreLog, Event, LogRule, Missing};
 use msrp_plan::Memory;
 use msrp_system::System;
 use msrp_text::records::RecordReader;
@@ -27,12 +28,36 @@ pub(crate) enum Awaited {
     After(u64),
 }
 
-/// What is awaited of each core before the first record.
-pub(crate) fn no_numbers(alloc: Global, system: &System) -> Result<Vec<Awaited>, Memory>
-    ensures { IfOk result (λ numbers. numbers.items ≡ no_numbers system.now) }
+fn next_of(number: Option<u64>) -> Awaited
+    ensures { result ≡ next_of number }
 {
-    let numbers = vec![in alloc; Awaited::Boot; system.cores() as usize]?;
-    Ok(numbers)
+    match number {
+        Some(number) => Awaited::After(number),
+        None => Awaited::Nothing,
+    }
+}
+
+// What is awaited of a core: its next record, or its boot.
+fn awaited_of(core: CoreLog) -> Awaited
+    ensures { result ≡ awaited_of core }
+{
+    if core.booted {
+        next_of(core.number)
+    } else {
+        Awaited::Boot
+    }
+}
+
+/// What is awaited of each core by what an auditor knows.
+pub(crate) fn awaited_in(alloc: Global, auditor: &LogAuditor) -> Result<Vec<Awaited>, Memory>
+    ensures { IfOk result (λ awaited. awaited.items ≡ awaited_in auditor.now.state) }
+{
+    let cores = auditor.cores();
+    let mut awaited = Vec::with_capacity(alloc, cores.len())?;
+    for core in cores {
+        awaited.push_reserved(awaited_of(*core));
+    }
+    Ok(awaited)
 }
 
 // Stores what is awaited of a core, if the core is one of the system.
@@ -41,15 +66,6 @@ fn put(numbers: &mut Vec<Awaited>, place: usize, awaited: Awaited)
 {
     if place < numbers.len() {
         numbers[place] = awaited;
-    }
-}
-
-fn next_of(number: Option<u64>) -> Awaited
-    ensures { result ≡ next_of number }
-{
-    match number {
-        Some(number) => Awaited::After(number),
-        None => Awaited::Nothing,
     }
 }
 

@@ -3,7 +3,7 @@
 
 use crate::numbers::long_number_at;
 use csv::ByteRecord;
-use msrp_plan::{CoreId, Op, ResId};
+use msrp_plan::{CoreId, Op, ResId, TaskId};
 use msrp_system::{MOST_CORES, MOST_RESOURCES, MOST_STEPS, MOST_TASKS, System, SystemFault, Task};
 use msrp_text::fields::{has_word, name_at, number_at};
 use msrp_text::records::{RecordReader, Stopped};
@@ -41,6 +41,9 @@ pub enum SystemRefusal {
     /// There are more resources, tasks or steps of a task than a system may have.
     #[error("a system has at most 64 cores, 1,024 tasks, 1,024 resources and 4,096 steps of a task")]
     Limit,
+    /// A task locks a global resource while it holds another global one.
+    #[error("a task must not lock a global resource while it holds another one")]
+    Nested,
 }
 
 /// Why a text gave no system.
@@ -263,6 +266,37 @@ fn at(untaken: Untaken, number: u64) -> SystemError {
     }
 }
 
+// The place of the first lock of a global resource among these steps while another one is held.
+fn nested_lock(system: &System, steps: &[Op]) -> Option<usize> {
+    let mut held = 0_u32;
+    for (place, step) in steps.iter().enumerate() {
+        match *step {
+            Op::Lock(res) if system.is_global(res) => {
+                if held > 0 {
+                    return Some(place);
+                }
+                held = 1;
+            }
+            Op::Unlock(res) if system.is_global(res) => held = 0,
+            _ => {}
+        }
+    }
+    None
+}
+
+// The record of the first such lock. The tasks begin after the head, the cores and the resources.
+fn nested_record(system: &System) -> Option<u64> {
+    let mut task_record = u64::from(system.resources()).saturating_add(3);
+    for t in 0..system.tasks() {
+        let steps = system.steps(TaskId(t));
+        if let Some(place) = nested_lock(system, steps) {
+            return Some(task_record.saturating_add(1).saturating_add(place as u64));
+        }
+        task_record = task_record.saturating_add(1).saturating_add(steps.len() as u64);
+    }
+    None
+}
+
 // The system of all records, after this many were read.
 fn system_at_end(alloc: Global, draft: Draft, number: u64) -> Result<System, SystemError> {
     if draft.cores == 0 {
@@ -272,7 +306,10 @@ fn system_at_end(alloc: Global, draft: Draft, number: u64) -> Result<System, Sys
         return Err(at(Untaken::Refused(SystemRefusal::Unmatched), number));
     }
     match System::of(alloc, draft.cores, draft.resources, draft.tasks) {
-        Ok(system) => Ok(system),
+        Ok(system) => match nested_record(&system) {
+            Some(record) => Err(at(Untaken::Refused(SystemRefusal::Nested), record)),
+            None => Ok(system),
+        },
         Err(SystemFault::Memory) => Err(SystemError::Memory),
         Err(_) => Err(at(Untaken::Refused(SystemRefusal::Limit), number)),
     }

@@ -143,7 +143,7 @@ cons_append : (o : Option JobId) (xs ys : List JobId) → cons_option o (xs ++ y
 cons_append None xs ys = refl
 cons_append (Some j) xs ys = refl
 
--- those that wait, and then those that request, are those that acquire, and then those that still wait
+-- those that wait, and then those that request, are those that acquire, then those that still wait
 pub in_turn : (system : PlanModel) (tolerances : Tolerances) (g : ℕ) (s : LogState) (events : List Event) → finding_from system tolerances s events ≡ None → (state_from system s events).stopped ≡ false
     → waiting system g s.jobs ++ jobs_by is_request g events ≡ jobs_by is_acquire g events ++ waiting system g (state_from system s events).jobs
 in_turn system tolerances g s [] h runs = append-nil (waiting system g s.jobs)

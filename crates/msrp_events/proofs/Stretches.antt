@@ -1,5 +1,5 @@
--- In a legal log a core runs its choice but for stretches within the slack: the clock of a core runs
--- exactly while the choice isn't the running job, and no event finds it run for too long.
+-- In a legal log a core runs its choice but for stretches within the slack: the clock of a core
+-- runs exactly while the choice isn't the running job, and no event finds it run for too long.
 use Rattle.std.proofs.Common.{◌≡◌, ◌<◌, ◌+◌, ◌&&◌, ◌==◌, ◌⊎◌, ◌∷◌, ◌++◌, ◌∙◌}
 use Rattle.msrp_plan.proofs.Common.{ℕ, Bool, true, false, not, List, [], Option, Some, None, is_some, refl, ap, sym, subst, arith, inl, inr, length, nat_tests, get_or-replicate, get_or-set_same, length-set, length-replicate, eqb-true, PlanModel, same_choice}
 use Rattle.msrp_plan.proofs.Lists.AnyAll.{any_in}

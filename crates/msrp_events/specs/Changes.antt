@@ -30,12 +30,15 @@ idle_core = record { booted = false; time = 0; number = None; run = None; since 
 abbrev pub no_job : LiveJob
 no_job = record { job = record { task = record { 0 = 0 }; k = 0 }; deadline = 0; started = false; waits = false; step = 0 }
 
+-- the log of a core
 abbrev pub core_at : List CoreLog → ℕ → CoreLog
 core_at cores c = slice_index_or cores c idle_core
 
+-- since when a resource has been free while a job awaits it
 abbrev pub free_at : List (Option ℕ) → ℕ → Option ℕ
 free_at free g = slice_index_or free g None
 
+-- the number of a task's next job
 abbrev pub next_at : List ℕ → ℕ → ℕ
 next_at next t = slice_index_or next t 0
 
@@ -63,15 +66,19 @@ abbrev pub last_at : Option ℕ → (LiveJob → LiveJob) → List LiveJob → L
 last_at None change jobs = jobs
 last_at (Some i) change jobs = remove jobs i ++ change (slice_index_or jobs i no_job) ∷ []
 
+-- a job at its release
 abbrev pub released : JobId → ℕ → LiveJob
 released j deadline = record { job = j; deadline = deadline; started = false; waits = false; step = 0 }
 
+-- the job has started
 abbrev pub as_started : LiveJob → LiveJob
 as_started j = record j { started = true }
 
+-- the job awaits a resource
 abbrev pub as_waiting : LiveJob → LiveJob
 as_waiting j = record j { waits = true }
 
+-- the job has done one more step, and awaits nothing
 abbrev pub as_stepped : LiveJob → LiveJob
 as_stepped j = record j { waits = false; step = j.step + 1 }
 
@@ -81,6 +88,7 @@ jobs_stepped Request j jobs = last_at (place_of jobs j) as_waiting jobs
 jobs_stepped Poll j jobs = jobs
 jobs_stepped _ j jobs = changed_at (place_of jobs j) as_stepped jobs
 
+-- what an action does to the released jobs
 abbrev pub jobs_with : Action → List LiveJob → List LiveJob
 jobs_with (Release j deadline) jobs = jobs ++ released j deadline ∷ []
 jobs_with (Switch (Some j)) jobs = changed_at (place_of jobs j) as_started jobs
@@ -88,6 +96,7 @@ jobs_with (Step kind j r) jobs = jobs_stepped kind j jobs
 jobs_with (End j) jobs = without_at (place_of jobs j) jobs
 jobs_with _ jobs = jobs
 
+-- a release counts one more job of its task
 abbrev pub next_with : Action → List ℕ → List ℕ
 next_with (Release j deadline) next = set next j.task.0 (j.k + 1)
 next_with _ next = next
@@ -101,9 +110,11 @@ acts (Step kind j r) now c = record c { acted = Some now }
 acts (End j) now c = record c { run = None }
 acts _ now c = c
 
+-- the core of an event after it
 abbrev pub core_with : Event → CoreLog → CoreLog
 core_with e c = acts e.action e.time (record c { time = e.time; number = e.number })
 
+-- the action ends the log
 abbrev pub stopped_with : Action → Bool
 stopped_with Stop = true
 stopped_with _ = false
@@ -122,6 +133,7 @@ core_touched system e = of_action e.action where
   of_action (Release j deadline) = core_of system j
   of_action _ = e.core.0
 
+-- the resource that the action may free or make awaited
 abbrev pub resource_touched : Action → Option ℕ
 resource_touched (Step kind j r) = Some r.0
 resource_touched _ = None
@@ -134,12 +146,15 @@ differs system jobs core c = core.booted && not (same_choice (choice system jobs
 abbrev pub is_ungranted : PlanModel → List LiveJob → ℕ → Bool
 is_ungranted system jobs g = is_awaited system jobs g && not (is_held system jobs g)
 
+-- since when a core should run another job
 abbrev pub since_with : PlanModel → List LiveJob → ℕ → ℕ → CoreLog → CoreLog
 since_with system jobs c now core = record core { since = clock_after (differs system jobs core c) core.since now }
 
+-- the clock of one core, after an event
 abbrev pub cores_timed : PlanModel → List LiveJob → ℕ → ℕ → List CoreLog → List CoreLog
 cores_timed system jobs c now cores = set cores c (since_with system jobs c now (core_at cores c))
 
+-- the clock of one resource, after an event
 abbrev pub free_timed : PlanModel → List LiveJob → Option ℕ → ℕ → List (Option ℕ) → List (Option ℕ)
 free_timed system jobs None now free = free
 free_timed system jobs (Some g) now free = set free g (clock_after (is_ungranted system jobs g) (free_at free g) now)
@@ -148,6 +163,7 @@ free_timed system jobs (Some g) now free = set free g (clock_after (is_ungranted
 abbrev pub cores_acted : Event → List CoreLog → List CoreLog
 cores_acted e cores = set cores e.core.0 (core_with e (core_at cores e.core.0))
 
+-- what an event changes
 abbrev pub moved : PlanModel → LogState → Event → LogState
 moved system s e = record {
   jobs = jobs_with e.action s.jobs;
@@ -161,5 +177,6 @@ moved system s e = record {
 abbrev pub state_with : PlanModel → LogState → Event → LogState
 state_with system s e = if s.stopped then s else moved system s e
 
+-- the state after some events
 abbrev pub state_from : PlanModel → LogState → List Event → LogState
 state_from system s events = fold (state_with system) s events

@@ -21,9 +21,11 @@ use Rattle.msrp_events.specs.declared.findings.LogRule.TheVariants.{E1, E2, E3, 
 use Rattle.msrp_events.specs.declared.findings.Missing.{Missing}
 use Rattle.msrp_events.specs.declared.findings.Missing.TheVariants as missing
 
+-- a fault if the test holds, and otherwise what the later checks find
 abbrev pub fault_if : Bool → LogRule → Option Finding → Option Finding
 fault_if test rule rest = if test then Some (Fault rule) else rest
 
+-- something is missing if the test holds; otherwise what the later checks find
 abbrev pub lacks_if : Bool → Missing → Option Finding → Option Finding
 lacks_if test what rest = if test then Some (Incomplete what) else rest
 
@@ -33,6 +35,7 @@ abbrev pub is_gap : Option ℕ → Option ℕ → Bool
 is_gap (Some last) (Some number) = not (number == last + 1)
 is_gap _ _ = false
 
+-- a record is missing before this one, or their times don't rise
 abbrev pub record_finding : CoreLog → Event → Action → Option Finding
 record_finding c e Boot = lacks_if c.booted missing.Restart None
 record_finding c e Lost = Some (Incomplete missing.Records)
@@ -67,6 +70,7 @@ release_finding system tolerances s j =
 abbrev pub choice_finding : PlanModel → LogState → ℕ → Option JobId → Option Finding
 choice_finding system s c j = fault_if (not (same_choice j (choice system s.jobs c))) E8 None
 
+-- a core switches to a job that may run and should
 abbrev pub switch_finding : PlanModel → LogState → ℕ → Option JobId → Option Finding
 switch_finding system s c None = choice_finding system s c None
 switch_finding system s c (Some j) = option_or (job_finding system s c j) (choice_finding system s c (Some j))
@@ -77,6 +81,7 @@ order_finding true kind rest = rest
 order_finding false Acquire rest = Some (Incomplete missing.Request)
 order_finding false _ rest = Some (Fault E9)
 
+-- a job does its next step, and the lock answers as it must
 abbrev pub step_of_finding : PlanModel → LogState → LockAction → JobId → ℕ → Option LiveJob → Option Finding
 step_of_finding system s kind j g None = None
 step_of_finding system s kind j g (Some x) = order_finding (is_next_step system kind g x) kind (fault_if (not (has_outcome system s.jobs kind g j)) E10 None)
@@ -89,6 +94,7 @@ step_finding system tolerances s e kind j g =
     fault_if (acts_late tolerances e.time (core_at s.cores e.core.0)) E8 (
     step_of_finding system s kind j g (live s.jobs j))))
 
+-- a job that ends has no lock or unlock left
 abbrev pub end_of_finding : PlanModel → Option LiveJob → Option Finding
 end_of_finding system None = None
 end_of_finding system (Some x) = fault_if (not (is_done system x)) E9 None
@@ -97,6 +103,7 @@ end_of_finding system (Some x) = fault_if (not (is_done system x)) E9 None
 abbrev pub end_finding : PlanModel → LogState → ℕ → JobId → Option Finding
 end_finding system s c j = option_or (job_finding system s c j) (fault_if (not (is_job (core_at s.cores c).run j)) E8 (end_of_finding system (live s.jobs j)))
 
+-- the finding of an action
 abbrev pub action_finding : PlanModel → Tolerances → LogState → Event → Action → Option Finding
 action_finding system tolerances s e (Release j deadline) = release_finding system tolerances s j
 action_finding system tolerances s e (Switch j) = switch_finding system s e.core.0 j

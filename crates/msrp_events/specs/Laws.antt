@@ -41,6 +41,7 @@ abbrev pub is_request : LockAction → Bool
 is_request Request = true
 is_request _ = false
 
+-- the job acquires a resource
 abbrev pub is_acquire : LockAction → Bool
 is_acquire Acquire = true
 is_acquire _ = false

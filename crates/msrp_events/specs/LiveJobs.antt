@@ -24,10 +24,12 @@ holds system g j = holds_after (take j.step (units system j.job)) g
 abbrev pub next_unit : PlanModel → LiveJob → Option Op
 next_unit system j = slice_get (units system j.job) j.step
 
+-- the unit, if there is one, locks the resource
 abbrev pub locks_next : ℕ → Option Op → Bool
 locks_next g None = false
 locks_next g (Some u) = is_lock_of g u
 
+-- the unit, if there is one, unlocks the resource
 abbrev pub unlocks_next : ℕ → Option Op → Bool
 unlocks_next g None = false
 unlocks_next g (Some u) = is_unlock_of g u

@@ -28,6 +28,7 @@ allowance tolerances = tolerances.slack + tolerances.skew
 abbrev pub is_overdue : Tolerances → ℕ → CoreLog → Bool
 is_overdue tolerances now c = is_some c.since && (is_past c.since (allowance tolerances) now && is_past c.acted (tolerances.operation + allowance tolerances) now)
 
+-- some core is overdue
 abbrev pub any_overdue : Tolerances → List CoreLog → ℕ → Bool
 any_overdue tolerances cores now = list_any (is_overdue tolerances now) cores
 
@@ -36,6 +37,7 @@ abbrev pub is_late : ℕ → ℕ → Option ℕ → Bool
 is_late wait now None = false
 is_late wait now (Some t) = nat_lt (t + wait) now
 
+-- some resource has been free too long
 abbrev pub any_late : Tolerances → List (Option ℕ) → ℕ → Bool
 any_late tolerances free now = list_any (is_late (tolerances.operation + tolerances.slack + tolerances.skew) now) free
 
@@ -56,6 +58,7 @@ is_next_step system _ g j = awaits system g j
 abbrev pub first_waiting : PlanModel → List LiveJob → ℕ → Option JobId
 first_waiting system jobs g = option_map (λ x. x.job) (find (awaits system g) jobs)
 
+-- the job is the first to wait for the resource
 abbrev pub is_first : PlanModel → List LiveJob → ℕ → JobId → Bool
 is_first system jobs g j = is_job (first_waiting system jobs g) j
 

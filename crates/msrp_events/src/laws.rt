@@ -36,8 +36,8 @@ pub fn first_come_first_served()
 {}
 
 /// A core runs its choice but for short stretches: if from an event on its choice has been another
-/// job than it runs, then each later event of a legal log is within slack and skew after that event,
-/// or after the end of the core's last operation.
+/// job than it runs, then each later event of a legal log is within slack and skew after that
+/// event, or after the end of the core's last operation.
 pub fn stretches()
     ensures { (system : PlanModel) (tolerances : Tolerated) (start : List LogEvent) (d : LogEvent) (mid : List LogEvent) (e : LogEvent) (c : ℕ) → c < system.cores → HoldsFrom system tolerances (is_off system c) start d mid e → IsInTime tolerances (state_after system (start ++ d ∷ mid)) c d.time e }
 {}

@@ -9,7 +9,7 @@ ghost use Rattle.msrp_events.specs.Examples.TwoCores as two;
 ghost use Rattle.msrp_events.specs.declared.findings.LogRule.TheVariants.{E1, E2, E3, E4, E5, E6, E7, E8, E9, E10};
 ghost use Rattle.msrp_events.specs.declared.findings.Missing.TheVariants.{Core, Start, Restart, Records, Clock, Release, Request, Room};
 
-/// The log is legal, and events after its end aren't judged. The clock of a core begins at its boot.
+/// The log is legal, and events after its end aren't judged. A core's clock begins at its boot.
 pub fn legal_log()
     ensures log { finding_in two.system two.tolerances two.log ≡ good }
     ensures after_stop { finding_in two.system two.tolerances two.after_stop ≡ good }

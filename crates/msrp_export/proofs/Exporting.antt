@@ -16,58 +16,36 @@ earlier tick m = grind arith
 ticks_fit : (tick m : ℕ) → 0 < m → tick ≤ tick * m
 ticks_fit tick m some = grind arith
 
-less-one : (tick : ℕ) → tick + 1 - 1 ≡ tick
-less-one tick = omega arith
-
-length_push : (rows : List Row) (r : Row) → length (rows ++ r ∷ []) ≡ length rows + 1
-length_push rows r = length-append rows (r ∷ [])
-
 -- all rows are in the ticks up to this one
 all_in : (plan : PlanModel) (rows : List Row) (tick : ℕ) → length rows ≤ tick * plan.cores + plan.cores → rows_before plan rows (tick + 1) ≡ rows
-all_in plan rows tick few = take_all ((tick + 1) * plan.cores) rows (let next = more tick plan.cores in omega (arith, few, next))
-
--- the rows of ticks that are over stay
-before_push : (plan : PlanModel) (rows : List Row) (r : Row) (n : ℕ) → n * plan.cores ≤ length rows → rows_before plan (rows ++ r ∷ []) n ≡ rows_before plan rows n
-before_push plan rows r n few = take-append-le (n * plan.cores) rows (r ∷ []) few
-
--- the number of ticks fits
-tick_fits : (e : Exporter) (rows : List Row) → HasTaken e rows → e.signals.tick ≤ length rows
-tick_fits e rows h =
-    let size = h.size in
-    let turns = h.turns in
-    let least = ticks_fit e.signals.tick e.signals.plan.now.cores (omega (arith, turns)) in
-    omega (arith, size, least)
+all_in plan rows tick few = take_all ((tick + 1) * plan.cores) rows (let next = more tick plan.cores in omega arith)
 
 -- the latest summary is that of all rows
 pub all_told : (e : Exporter) (rows : List Row) → HasTaken e rows → Summarizes e.signals.latest rows
-all_told e rows h = subst (Summarizes e.signals.latest) (all_in e.signals.plan.now rows e.signals.tick (let size = h.size in let turns = h.turns in omega (arith, size, turns))) h.signals.latest
+all_told e rows h = subst (Summarizes e.signals.latest) (all_in e.signals.plan.now rows e.signals.tick (omega arith)) h.signals.latest
 
 -- one more row of the tick
 told : (e : Exporter) (l : Summary) (rows : List Row) (r : Row) → HasTaken e rows → Summarizes l (rows ++ r ∷ []) → TellTick (record e.signals { latest = l }) (rows ++ r ∷ [])
 told e l rows r h latest =
     let plan = e.signals.plan.now in
     let tick = e.signals.tick in
-    let size = h.size in
-    let turns = h.turns in
     let less = earlier tick plan.cores in
-    let longer = length_push rows r in
+    let longer = length-append rows (r ∷ []) in
     record {
-      earlier = subst (Summarizes e.signals.earlier) (sym (before_push plan rows r (tick - 1) (omega (arith, size, less)))) h.signals.earlier;
-      before = subst (Summarizes e.signals.before) (sym (before_push plan rows r tick (omega (arith, size)))) h.signals.before;
-      latest = subst (Summarizes l) (sym (all_in plan (rows ++ r ∷ []) tick (omega (arith, size, turns, longer)))) latest;
+      earlier = subst (Summarizes e.signals.earlier) (sym (take-append-le ((tick - 1) * plan.cores) rows (r ∷ []) (omega arith))) h.signals.earlier;
+      before = subst (Summarizes e.signals.before) (sym (take-append-le (tick * plan.cores) rows (r ∷ []) (omega arith))) h.signals.before;
+      latest = subst (Summarizes l) (sym (all_in plan (rows ++ r ∷ []) tick (omega arith))) latest;
     }
 
 -- one more row that isn't the last one of the tick
 pub went : (e : Exporter) (l : Summary) (n : ℕ) (rows : List Row) (r : Row) → HasTaken e rows → Summarizes l (rows ++ r ∷ []) → n ≡ e.turns + 1 → n ≢ e.signals.plan.now.cores
     → HasTaken (record e { signals = record e.signals { latest = l }; turns = n }) (rows ++ r ∷ [])
 went e l n rows r h latest next other =
-    let size = h.size in
-    let turns = h.turns in
-    let longer = length_push rows r in
+    let longer = length-append rows (r ∷ []) in
     record {
       plan = h.plan;
-      size = omega (arith, size, longer, next);
-      turns = omega (arith, turns, next, other);
+      size = omega arith;
+      turns = omega arith;
       signals = told e l rows r h latest;
     }
 
@@ -78,19 +56,18 @@ ended e l t rows r x h few latest last next =
     let plan = e.signals.plan.now in
     let tick = e.signals.tick in
     let all = rows ++ r ∷ [] in
-    let size = h.size in
-    let turns = h.turns in
-    let longer = length_push rows r in
-    let low = tick_fits e rows h in
+    let longer = length-append rows (r ∷ []) in
+    let least = ticks_fit tick plan.cores (omega arith) in
     let product = more tick plan.cores in
     let full = told e l rows r h latest in
-    subst (λ (u : Signals). HasTaken (record e { signals = u; turns = 0; text = x.text }) all) (sym (next (omega (arith, low, few)))) (record {
+    let before : tick ≡ tick + 1 - 1 = omega arith in
+    subst (λ (u : Signals). HasTaken (record e { signals = u; turns = 0; text = x.text }) all) (sym (next (omega arith))) (record {
       plan = h.plan;
-      size = omega (arith, size, longer, last, product);
-      turns = omega (arith, turns);
+      size = omega arith;
+      turns = omega arith;
       signals = record {
-        earlier = subst (λ n. Summarizes e.signals.before (rows_before plan all n)) (sym (less-one tick)) full.before;
+        earlier = subst (λ n. Summarizes e.signals.before (rows_before plan all n)) before full.before;
         before = full.latest;
-        latest = subst (Summarizes l) (sym (all_in plan all (tick + 1) (omega (arith, size, turns, longer, product)))) latest;
+        latest = subst (Summarizes l) (sym (all_in plan all (tick + 1) (omega arith))) latest;
       };
     })

@@ -1,6 +1,6 @@
 -- What the rows of a trace say of a core, of a task and of a resource.
 use Rattle.std.specs.Prelude.{◌==◌, ◌&&◌, ◌||◌, if◌then◌else◌, ◌/◌, ◌≡◌, ◌<◌, ◌+◌, ◌-◌, ◌*◌}
-use Rattle.msrp_plan.specs.Common.{ℕ, List, Bool, false, not, nat_lt, nat_le, Option, Some, None, fold, count_by, length, PlanModel, key, task_at, is_released, is_waiting, job_at, log_of, fifo, is_on, is_some, slice_index_or, most_cores, most_resources, most_tasks, is_grant, is_release, is_release_of, is_request, same_kind, take, nat_eq, option_map, IsPlan}
+use Rattle.msrp_plan.specs.Common.{ℕ, List, [], Bool, false, not, nat_lt, nat_le, Option, Some, None, fold, count_by, length, PlanModel, key, task_at, is_released, is_waiting, job_at, log_of, fifo, is_on, is_some, slice_index_or, most_cores, most_resources, most_tasks, is_grant, is_release, is_release_of, is_request, same_kind, take, nat_eq, option_map, IsPlan}
 use Rattle.msrp_plan.specs.declared.ids.JobId.{JobId}
 use Rattle.msrp_plan.specs.declared.rows.Kind.{Kind}
 use Rattle.msrp_plan.specs.declared.rows.Kind.TheVariants.{Lock, Unlock, Take}
@@ -94,14 +94,6 @@ abbrev pub resource_state : ℕ → List Row → ResourceState
 resource_state g rows = record { holder = holder g rows; queue_length = length (fifo g rows) }
 
 -- ---- what is kept of rows in place of the rows
--- of a task without rows
-abbrev pub no_counts : TaskCounts
-no_counts = record { work = 0; acquired = 0; given_up = 0 }
-
--- of a resource without rows
-abbrev pub no_use : ResourceUse
-no_use = record { holder = None; requests = 0; releases = 0 }
-
 -- of a task
 abbrev pub counts_of : ℕ → List Row → TaskCounts
 counts_of t rows = record { work = work t rows; acquired = acquired t rows; given_up = given_up t rows }
@@ -129,8 +121,8 @@ used r u = record {
 -- the summary is that of these rows
 pub record Summarizes (s : Summary) (rows : List Row) : Type 0 where
   pub last_rows : (c : ℕ) → c < most_cores → slice_index_or s.last_rows c None ≡ last_row c rows
-  pub tasks : (t : ℕ) → t < most_tasks → slice_index_or s.tasks t no_counts ≡ counts_of t rows
-  pub uses : (g : ℕ) → g < most_resources → slice_index_or s.uses g no_use ≡ use_of g rows
+  pub tasks : (t : ℕ) → t < most_tasks → slice_index_or s.tasks t (counts_of t []) ≡ counts_of t rows
+  pub uses : (g : ℕ) → g < most_resources → slice_index_or s.uses g (use_of g []) ≡ use_of g rows
 
 -- ---- the states in a tick, which has one row of each core, and in the tick before
 -- the track is one of the plan
@@ -149,6 +141,7 @@ state_of plan before rows tick (Core c) = option_map CoreState (last_row c.0 row
 state_of plan before rows tick (Task t) = Some (StateOfTask (task_status plan before rows tick t.0))
 state_of plan before rows tick (Resource g) = Some (StateOfResource (resource_state g.0 rows))
 
+-- the state on a track in a tick of a trace
 abbrev pub state_in : PlanModel → List Row → ℕ → Track → Option State
 state_in plan rows tick track = state_of plan (rows_before plan rows tick) (rows_before plan rows (tick + 1)) tick track
 

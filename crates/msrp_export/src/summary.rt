@@ -1,7 +1,7 @@
 //! What the rows so far say of each core, task and resource.
 ghost use Rattle.std.specs.Prelude.{◌≡◌, ◌<◌, ◌+◌, ◌++◌, ◌∷◌, ◌^◌};
 ghost use Rattle.msrp_plan.specs.Common.{ℕ, [], List, None, cond, length, slice_index_or, is_waiting, most_cores, most_resources, most_tasks};
-ghost use Rattle.msrp_export.specs.Signals.{Row as TraceRow, Summarizes, acquires, counted, counts_of, gives_up, holder_by, last_row, no_counts, no_use, resource_state, use_of, used};
+ghost use Rattle.msrp_export.specs.Signals.{Row as TraceRow, Summarizes, acquires, counted, counts_of, gives_up, holder_by, last_row, resource_state, use_of, used};
 
 use crate::signals::ResourceState;
 use msrp_plan::limits::{MOST_CORES, MOST_RESOURCES, MOST_TASKS};
@@ -171,7 +171,7 @@ impl Summary {
 
     // Counts a row for its task.
     fn take_task(&mut self, row: Row)
-        ensures tasks { (t : ℕ) (rows : List TraceRow) → t < most_tasks → length rows + 1 < 2 ^ 32 → slice_index_or self.old.tasks t no_counts ≡ counts_of t rows → slice_index_or self.new.tasks t no_counts ≡ counts_of t (rows ++ row ∷ []) }
+        ensures tasks { (t : ℕ) (rows : List TraceRow) → t < most_tasks → length rows + 1 < 2 ^ 32 → slice_index_or self.old.tasks t (counts_of t []) ≡ counts_of t rows → slice_index_or self.new.tasks t (counts_of t []) ≡ counts_of t (rows ++ row ∷ []) }
         ensures last_rows { self.new.last_rows ≡ self.old.last_rows }
         ensures uses { self.new.uses ≡ self.old.uses }
     {
@@ -186,7 +186,7 @@ impl Summary {
 
     // Counts a row for its resource.
     fn take_use(&mut self, row: Row)
-        ensures uses { (g : ℕ) (rows : List TraceRow) → g < most_resources → length rows + 1 < 2 ^ 32 → slice_index_or self.old.uses g no_use ≡ use_of g rows → slice_index_or self.new.uses g no_use ≡ use_of g (rows ++ row ∷ []) }
+        ensures uses { (g : ℕ) (rows : List TraceRow) → g < most_resources → length rows + 1 < 2 ^ 32 → slice_index_or self.old.uses g (use_of g []) ≡ use_of g rows → slice_index_or self.new.uses g (use_of g []) ≡ use_of g (rows ++ row ∷ []) }
         ensures last_rows { self.new.last_rows ≡ self.old.last_rows }
         ensures tasks { self.new.tasks ≡ self.old.tasks }
     {

@@ -45,8 +45,7 @@ fn release_of(plan: &Plan, job: JobId) -> u64
 {
     match plan.times(job.task) {
         Times::Listed { count } if count <= job.k => u64::from(plan.ticks()),
-        Times::Listed { .. } => plan.release(job),
-        Times::Every { .. } => plan.release(job),
+        _ => plan.release(job),
     }
 }
 

@@ -17,17 +17,46 @@ pub struct Paths<'a> {
     pub trace: Option<&'a str>,
 }
 
-// A path as one word, in quotes if it has unusual characters.
+// A path as one word, in quotes if it has unusual characters: in single ones if a shell reads it
+// otherwise in double ones.
 #[derive(Clone, Copy)]
 struct Word<'a>(&'a str);
 
+impl Word<'_> {
+    fn write_quoted<W: Write>(&self, f: &mut Formatter<W>) -> fmt::Result {
+        f.write_char('\'')?;
+        for c in self.0.chars() {
+            f.write_str(if c == '\'' { "'\\'" } else { "" })?;
+            f.write_char(c)?;
+        }
+        f.write_char('\'')
+    }
+}
+
 impl fmt::Display for Word<'_> {
     fn fmt<W: Write>(&self, f: &mut Formatter<W>) -> fmt::Result {
-        let is_usual = |c: char| c.is_ascii_alphanumeric() || "-_./+,:=@%<>".contains(c);
+        let is_usual = |c: char| c.is_ascii_alphanumeric() || "-_./+,:=@%".contains(c);
+        let is_special = |c: char| "$`\\!\"".contains(c);
         if !self.0.is_empty() && self.0.chars().all(is_usual) {
             f.write_str(self.0)
+        } else if self.0.chars().any(is_special) {
+            self.write_quoted(f)
         } else {
             write!(f, "{:?}", self.0)
+        }
+    }
+}
+
+// What a text is called in a sentence.
+#[derive(Clone, Copy)]
+struct Name<'a>(&'a str);
+
+impl fmt::Display for Name<'_> {
+    fn fmt<W: Write>(&self, f: &mut Formatter<W>) -> fmt::Result {
+        if self.0 == STANDARD {
+            f.write_str("<stdin>")
+        } else {
+            write!(f, "{}", Word(self.0))
         }
     }
 }
@@ -54,7 +83,7 @@ fn name_of(path: &str) -> &str {
 fn unread(rt: &HostRuntime, paths: Paths<'_>) -> Result<String, CliFault> {
     for path in [Some(paths.plan), paths.trace].iter().flatten() {
         if let Some(error) = failure(rt, path) {
-            let name = Word(name_of(path));
+            let name = Name(path);
             return Ok(format!(in rt.alloc(); "cannot read {name}: {error}\n")?);
         }
     }

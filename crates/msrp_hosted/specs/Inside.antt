@@ -25,9 +25,11 @@ Keeps Waiting board m log seat = IsAtWork board m.plan m.core m log seat
 Keeps InTurn board m log seat = IsInTurn board m.plan m.core m log seat
 Keeps Ended board m log seat = HasWorked board m.plan m.core log seat
 
+-- what a clause sees of a core
 abbrev pub core_view : CoreInside → HostedCoreModel
 core_view c = record { plan = c.machine.plan; core = c.machine.core; board = c.board.value; turns = c.log.turns; step = c.step }
 
+-- what the fields of a core hold
 pub record IsCoreView (c : CoreInside) : Type 0 where
   pub seat : SeatModel
   pub has : c.seat ≡ Some seat
@@ -47,9 +49,11 @@ pub record IsOpened (board : BoardModel) (plan : PlanModel) (rest : SeatModel) (
   pub opened : HasRest board plan.cores Opened rest
   pub worked : AllWorked plan logs rest
 
+-- what a clause sees of a run
 abbrev pub run_view : RunInside → HostedRunModel
 run_view r = record { plan = r.plan.now; board = r.board.value; handed = r.handed; joined = turns_in r.logs.items }
 
+-- what the fields of a run hold
 pub record IsRunView (r : RunInside) : Type 0 where
   pub size : r.board.value.size ≡ size_of r.plan.now
   pub some : 0 < r.plan.now.ticks
@@ -65,6 +69,7 @@ pub record IsRunView (r : RunInside) : Type 0 where
 abbrev pub settled_view : SettledInside → SettledRunModel
 settled_view s = record { plan = s.plan.now; turns = turns_in s.logs.items }
 
+-- what the fields of a settled run hold
 pub record IsSettledView (s : SettledInside) : Type 0 where
   pub accepted : IsPlan s.plan.now
   pub run : HasRun s.plan.now s.logs.items s.settled

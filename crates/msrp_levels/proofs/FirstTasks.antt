@@ -86,7 +86,7 @@ other_push ts a g n is =
     and_false false = refl
 
 -- ---- users, ceiling and cores
--- the users that stand among the first n tasks, the ceiling, and the cores, as these tasks tell them
+-- the users among the first n tasks, the ceiling, and the cores, as these tasks tell them
 pub record AreTold (plan : PlanModel) (g n : ℕ) (us : List TaskId) (highest : ℕ) (cs : List CoreUse) : Type 0 where
   pub users : map (λ t. t.0) us ≡ filter (λ t. uses g (task_at plan t)) (range_with_len 0 n)
   pub ceiling : highest ≡ greatest (map (level_of plan) (filter (uses g) (take n plan.tasks)))

@@ -15,6 +15,7 @@ use_from us n g = record { locked = list_any (is_lock_of g) (drop n us); longest
 unfoldable pub uses_from : List Op → ℕ → List Use
 uses_from us n = map (use_from us n) (range_with_len 0 most_resources)
 
+-- what a task's units do with each resource
 abbrev pub uses_of : List Op → List Use
 uses_of us = uses_from us 0
 
@@ -26,6 +27,7 @@ footprint_of plan task = record { core = record { 0 = task.core }; level = level
 abbrev pub unused : Use
 unused = record { locked = false; longest = 0; past_unlock = 0 }
 
+-- what is done with one resource
 abbrev pub use_at : List Use → ℕ → Use
 use_at uses g = slice_index_or uses g unused
 
@@ -46,6 +48,7 @@ with_lock place u = record u { locked = true; longest = max u.longest (u.past_un
 abbrev pub with_unlock : ℕ → Use → Use
 with_unlock place u = record u { past_unlock = place + 1 }
 
+-- the uses after one more unit, at its place
 abbrev pub passed : ℕ → Op → List Use → List Use
 passed place Run uses = uses
 passed place (Lock r) uses = set uses r.0 (with_lock place (use_at uses r.0))

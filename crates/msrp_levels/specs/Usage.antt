@@ -10,6 +10,7 @@ use Rattle.msrp_levels.specs.declared.usage.Usage.{Usage}
 abbrev pub with_user : ℕ → CoreUse → CoreUse
 with_user n u = record { used = true; section = max u.section n }
 
+-- how a core uses the resource
 abbrev pub core_use_at : List CoreUse → ℕ → CoreUse
 core_use_at cores d = slice_index_or cores d (record { used = false; section = 0 })
 

@@ -1,6 +1,6 @@
 //! What the program prints, and its exit status.
 
-use msrp_event_text::{LogError, LogVerdict, SystemError};
+use msrp_event_text::{LogError, LogVerdict, StateError, SystemError};
 use msrp_events::Missing;
 use msrp_faults::CliFault;
 use msrp_plan::{Memory, WriteFault};
@@ -12,7 +12,7 @@ use thiserror::Error;
 /// name.
 #[derive(Clone, Copy, Debug, Error, PartialEq, Eq)]
 pub enum Refused {
-    #[error("usage: msrp_log audit|why|report [--op T] [--slack T] [--skew T] [--tick T] [--backlog N] SYSTEM LOG")]
+    #[error("usage: msrp_log audit|why|report|state [--op T] [--slack T] [--skew T] [--tick T] [--backlog N] SYSTEM LOG")]
     Usage,
     #[error("system: {0}")]
     System(SystemError),
@@ -22,6 +22,10 @@ pub enum Refused {
     Limit,
     #[error("log: {0}")]
     Log(LogError),
+    #[error("state: {0}")]
+    State(StateError),
+    #[error("log: it has no record of this number")]
+    Short,
     #[error("memory")]
     Memory,
     #[error("read fault")]
@@ -47,6 +51,16 @@ impl From<LogError> for Refused {
             LogError::Memory => Refused::Memory,
             LogError::Read => Refused::Read,
             error => Refused::Log(error),
+        }
+    }
+}
+
+impl From<StateError> for Refused {
+    fn from(error: StateError) -> Refused {
+        match error {
+            StateError::Memory => Refused::Memory,
+            StateError::Read => Refused::Read,
+            error => Refused::State(error),
         }
     }
 }
@@ -131,7 +145,14 @@ pub fn verdict_line(alloc: Global, verdict: LogVerdict) -> Result<(String, u8), 
 pub fn exit_of(outcome: &Result<u8, Refused>) -> u8 {
     match outcome {
         Ok(status) => *status,
-        Err(Refused::System(_) | Refused::Plan(_) | Refused::Limit | Refused::Log(_)) => 2,
+        Err(
+            Refused::System(_)
+            | Refused::Plan(_)
+            | Refused::Limit
+            | Refused::Log(_)
+            | Refused::State(_)
+            | Refused::Short,
+        ) => 2,
         Err(Refused::Usage) => 3,
         Err(Refused::Memory) => 4,
         Err(Refused::Read | Refused::Write) => 5,

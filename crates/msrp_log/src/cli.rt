@@ -12,6 +12,8 @@ pub struct Audit<'a> {
     pub tolerances: Tolerances,
     /// How many ns a tick lasts, where the system is a plan in ticks.
     pub tick: Option<u32>,
+    /// The path of the state from which the log is judged.
+    pub begin: Option<&'a str>,
     pub system: &'a str,
     pub log: &'a str,
 }
@@ -22,6 +24,8 @@ pub enum Asked<'a> {
     Audit(Audit<'a>),
     Why(Audit<'a>),
     Report(Audit<'a>),
+    /// The state before the record of that number.
+    State(Audit<'a>, u64),
     Help,
 }
 
@@ -38,6 +42,10 @@ const SKEW: &str = "skew";
 const TICK: &str = "tick";
 
 const BACKLOG: &str = "backlog";
+
+const BEGIN: &str = "begin";
+
+const RECORD: &str = "at";
 
 // The jobs that may be released and not ended, where the words don't say it.
 const USUAL_BACKLOG: u32 = 4_096;
@@ -92,19 +100,33 @@ fn judging<'a>(alloc: Global, name: &'a str, help: &'a str) -> Result<Command<'a
     )
 }
 
+// The same, after a start state.
+fn beginning<'a>(alloc: Global, name: &'a str, help: &'a str) -> Result<Command<'a>, AllocError> {
+    let begin = "the log goes on from this state, which state wrote";
+    judging(alloc, name, help)?.arg(valued(alloc, BEGIN, "STATE", begin))
+}
+
+// The command that writes a start state.
+fn stating<'a>(alloc: Global) -> Result<Command<'a>, AllocError> {
+    let help = "write the state before a record of a log, for --begin";
+    let record = valued(alloc, RECORD, "N", "the number of the record, 2 or more");
+    beginning(alloc, "state", help)?.arg(record.required(true))
+}
+
 fn grammar<'a>(alloc: Global) -> Result<Command<'a>, AllocError> {
     let why = "judge a log, and give the reason for a fault";
     Command::new(alloc, "msrp_log")
         .about(
             "Judges a kernel's log by the Multiprocessor Stack Resource Policy. Times are in ns, or as 5us, 2ms, 1s.",
         )
-        .subcommand(judging(alloc, "audit", "judge a log: good, or its first fault")?)?
-        .subcommand(judging(alloc, "why", why)?)?
+        .subcommand(beginning(alloc, "audit", "judge a log: good, or its first fault")?)?
+        .subcommand(beginning(alloc, "why", why)?)?
         .subcommand(judging(
             alloc,
             "report",
             "judge a log, and count what a good one exercises",
-        )?)
+        )?)?
+        .subcommand(stating(alloc)?)
 }
 
 // The number of these digits, if they are one.
@@ -164,6 +186,17 @@ fn tick_at(matches: &ArgMatches<'_>) -> Result<Option<u32>, Refused> {
     }
 }
 
+// The number of a record that can be an event.
+fn record_at(matches: &ArgMatches<'_>) -> Result<u64, Refused> {
+    match value_of(matches, RECORD) {
+        Some(text) if !text.starts_with("+") => match text.parse::<u64>() {
+            Ok(record) if record >= 2 => Ok(record),
+            _ => Err(Refused::Usage),
+        },
+        _ => Err(Refused::Usage),
+    }
+}
+
 fn audit_of<'a>(matches: &ArgMatches<'a>) -> Result<Audit<'a>, Refused> {
     let tolerances = Tolerances {
         operation: duration_at(matches, OPERATION)?.unwrap_or(0),
@@ -172,10 +205,15 @@ fn audit_of<'a>(matches: &ArgMatches<'a>) -> Result<Audit<'a>, Refused> {
         backlog: backlog_at(matches)?,
     };
     let tick = tick_at(matches)?;
+    let begin = value_of(matches, BEGIN);
+    if begin == Some(STANDARD) {
+        return Err(Refused::Usage);
+    }
     match (value_of(matches, SYSTEM), value_of(matches, LOG)) {
         (Some(system), Some(log)) if system != STANDARD || log != STANDARD => Ok(Audit {
             tolerances,
             tick,
+            begin,
             system,
             log,
         }),
@@ -190,6 +228,9 @@ pub fn asked_of<'a>(alloc: Global, words: &'a [String]) -> Result<Asked<'a>, Ref
             Some(("audit", matches)) => Ok(Asked::Audit(audit_of(matches)?)),
             Some(("why", matches)) => Ok(Asked::Why(audit_of(matches)?)),
             Some(("report", matches)) => Ok(Asked::Report(audit_of(matches)?)),
+            Some(("state", matches)) => {
+                Ok(Asked::State(audit_of(matches)?, record_at(matches)?))
+            }
             _ => Err(Refused::Usage),
         },
         Err(error) => match fault_of_words(error.kind()) {

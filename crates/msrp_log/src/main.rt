@@ -1,24 +1,30 @@
 //! `msrp_log`: judges the log of a kernel by its events, with their times as they are.
 //!
-//! `cli` reads the command line, `systems` the system or the plan, `why` gives reasons, `report` counts, and `main`
-//! prints the verdict and gives the exit status. `msrp_event_text` judges.
+//! `cli` reads the command line, `systems` the system or the plan, `why` gives reasons, `report`
+//! counts, `states` writes start states, and `main` prints the verdict and gives the exit status.
+//! `msrp_event_text` judges.
 #![tactic(auto)]
+
+ghost use Rattle.std.specs.Prelude.{◌≡◌};
+ghost use Rattle.msrp_plan.specs.Common.{IfOk, None};
 
 mod answers;
 mod cli;
 mod report;
+mod states;
 mod systems;
 mod why;
 
 use answers::{Refused, exit_of, verdict_line};
 use cli::{Asked, Audit, asked_of, help_text};
 use csv::ByteRecord;
-use msrp_cli::{Input, open_both, words_of};
+use msrp_cli::{Input, open, open_both, words_of};
 use msrp_event_audit::LogAuditor;
-use msrp_event_text::{Judged, Unwatched, audit_log, judge_log};
+use msrp_event_text::{Judged, LogVerdict, Unwatched, audit_log, judge_log, read_state};
 use msrp_plan::bytes::Sink;
 use msrp_system::System;
 use report::Report;
+use states::{StateBefore, state_text};
 use std::alloc::{AllocError, Global};
 use std::io;
 use std::process::ExitCode;
@@ -40,12 +46,53 @@ fn opened(rt: &HostRuntime, words: &Audit<'_>) -> Result<(System, Input), Refuse
     }
 }
 
+// An auditor with the state from which the log is judged: that before the first event, or one of a
+// text.
+fn begun<'a>(
+    rt: &HostRuntime,
+    words: &Audit<'_>,
+    system: &'a System,
+) -> Result<LogAuditor<'a>, Refused>
+    ensures system { IfOk result (λ auditor. auditor.system ≡ system.now) }
+    ensures none { IfOk result (λ auditor. auditor.finding ≡ None) }
+{
+    let alloc = rt.alloc();
+    let mut auditor = LogAuditor::with_room(alloc, system, words.tolerances)?;
+    if let Some(state) = words.begin {
+        read_state(alloc, open(rt, state)?, &mut auditor)?;
+    }
+    Ok(auditor)
+}
+
+// The verdict on a log, after its start state if there is one.
+fn verdict_on(
+    rt: &HostRuntime,
+    words: &Audit<'_>,
+    system: &System,
+    log: Input,
+) -> Result<LogVerdict, Refused> {
+    let alloc = rt.alloc();
+    if words.begin.is_none() {
+        return Ok(audit_log(alloc, log, system, words.tolerances)?);
+    }
+    let mut auditor = begun(rt, words, system)?;
+    let mut fields = ByteRecord::new(alloc);
+    let judged = judge_log(
+        alloc,
+        log,
+        system,
+        &mut Unwatched,
+        &mut auditor,
+        &mut fields,
+    )?;
+    Ok(judged.verdict)
+}
+
 // Prints the verdict on a log, and answers the exit status.
 fn audit(rt: &HostRuntime, words: &Audit<'_>) -> Result<u8, Refused> {
-    let alloc = rt.alloc();
     let (system, log) = opened(rt, words)?;
-    let verdict = audit_log(alloc, log, &system, words.tolerances)?;
-    let (line, status) = verdict_line(alloc, verdict)?;
+    let verdict = verdict_on(rt, words, &system, log)?;
+    let (line, status) = verdict_line(rt.alloc(), verdict)?;
     print(rt, &line)?;
     Ok(status)
 }
@@ -67,7 +114,7 @@ fn reason<'a>(
 fn explain(rt: &HostRuntime, words: &Audit<'_>) -> Result<u8, Refused> {
     let alloc = rt.alloc();
     let (system, log) = opened(rt, words)?;
-    let mut auditor = LogAuditor::with_room(alloc, &system, words.tolerances)?;
+    let mut auditor = begun(rt, words, &system)?;
     let mut fields = ByteRecord::new(alloc);
     let judged = judge_log(
         alloc,
@@ -100,6 +147,33 @@ fn count(rt: &HostRuntime, words: &Audit<'_>) -> Result<u8, Refused> {
     Ok(status)
 }
 
+// Prints the state before a record, or the verdict if a record before it decides.
+fn write_state(rt: &HostRuntime, words: &Audit<'_>, record: u64) -> Result<u8, Refused> {
+    let alloc = rt.alloc();
+    let (system, log) = opened(rt, words)?;
+    let mut auditor = begun(rt, words, &system)?;
+    let mut state = StateBefore::new(alloc, record);
+    let mut fields = ByteRecord::new(alloc);
+    let judged = judge_log(alloc, log, &system, &mut state, &mut auditor, &mut fields);
+    let is_next = state.is_next();
+    if let Some(text) = state.into_text() {
+        print(rt, &text?)?;
+        return Ok(0);
+    }
+    match judged?.verdict {
+        LogVerdict::Good if is_next => {
+            print(rt, &state_text(alloc, &auditor)?)?;
+            Ok(0)
+        }
+        LogVerdict::Good => Err(Refused::Short),
+        verdict => {
+            let (line, status) = verdict_line(alloc, verdict)?;
+            print(rt, &line)?;
+            Ok(status)
+        }
+    }
+}
+
 // Does what the words ask for, and answers the exit status.
 fn run(rt: &HostRuntime) -> Result<u8, Refused> {
     let alloc = rt.alloc();
@@ -108,6 +182,7 @@ fn run(rt: &HostRuntime) -> Result<u8, Refused> {
         Asked::Audit(words) => audit(rt, &words),
         Asked::Why(words) => explain(rt, &words),
         Asked::Report(words) => count(rt, &words),
+        Asked::State(words, record) => write_state(rt, &words, record),
         Asked::Help => {
             print(rt, &help_text(alloc, &words)?)?;
             Ok(0)

@@ -8,6 +8,13 @@ use msrp_system::System;
 use std::alloc::{AllocError, Global};
 use std::fmt::{self, Formatter, Write};
 
+// The records of a core, and those that have numbers.
+#[derive(Clone, Copy, Debug, Default)]
+struct CoreCounts {
+    records: u64,
+    numbered: u64,
+}
+
 // The jobs of a task. All times are in ns, and the longest of one job.
 #[derive(Clone, Copy, Debug, Default)]
 struct TaskCounts {
@@ -61,6 +68,7 @@ fn run_of(auditor: &LogAuditor<'_>, core: CoreId) -> Option<JobId> {
 #[derive(Debug, Drop)]
 pub struct Report<'a> {
     system: &'a System,
+    cores: Vec<CoreCounts>,
     tasks: Vec<TaskCounts>,
     resources: Vec<ResourceCounts>,
     jobs: Vec<OpenJob>,
@@ -85,6 +93,7 @@ impl<'a> Report<'a> {
     ) -> Result<Report<'a>, AllocError> {
         Ok(Report {
             system,
+            cores: vec![in alloc; CoreCounts::default(); system.cores() as usize]?,
             tasks: vec![in alloc; TaskCounts::default(); system.tasks() as usize]?,
             resources: vec![in alloc; ResourceCounts::default(); system.resources() as usize]?,
             jobs: Vec::with_capacity(alloc, backlog as usize)?,
@@ -279,9 +288,13 @@ impl Watch for Report<'_> {
         let Event {
             time,
             core,
+            number,
             action,
-            ..
         } = event;
+        if let Some(counts) = self.cores.get_mut(core.0 as usize) {
+            counts.records = counts.records.saturating_add(1);
+            counts.numbered = counts.numbered.saturating_add(u64::from(number.is_some()));
+        }
         if self.stopped {
             return;
         }
@@ -300,6 +313,9 @@ impl Watch for Report<'_> {
 impl fmt::Display for Report<'_> {
     fn fmt<W: Write>(&self, f: &mut Formatter<W>) -> fmt::Result {
         writeln!(f, "msrp-log-report,1")?;
+        for (c, core) in self.cores.iter().enumerate() {
+            writeln!(f, "core,{c},{},{}", core.records, core.numbered)?;
+        }
         for t in 0..self.system.tasks() {
             let task = self.tasks.get(t as usize).copied().unwrap_or_default();
             let name = self.system.task_name(TaskId(t));

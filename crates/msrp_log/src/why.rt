@@ -168,12 +168,7 @@ impl<'a> Why<'a> {
     fn write_overdue<W: Write>(&self, f: &mut Formatter<W>) -> fmt::Result {
         let core = self.core();
         let limit = self.auditor.core(core).map_or(0, |log| self.limit(log));
-        writeln!(
-            f,
-            "core {} switches to {} by {limit}",
-            core.0,
-            self.choice(core)
-        )
+        writeln!(f, "core {} switches by {limit} to the job it should run", core.0)
     }
 
     fn write_late<W: Write>(&self, f: &mut Formatter<W>) -> fmt::Result {
@@ -308,7 +303,7 @@ impl<'a> Why<'a> {
             self.choice(core)
         )?;
         if let Some(since) = log.since {
-            write!(f, ", since {since}")?;
+            write!(f, "\ncore {c} has not run the job it should since: {since}")?;
         }
         if let Some(acted) = log.acted {
             write!(f, "\nlast operation of core {c}: at {acted}")?;
@@ -341,53 +336,35 @@ impl<'a> Why<'a> {
         Ok(())
     }
 
+    // What a record shows of the records of its core that are missing.
+    fn write_gap<W: Write>(&self, f: &mut Formatter<W>) -> fmt::Result {
+        let Event { core, number, .. } = self.shown.event;
+        let last = self.auditor.core(core).and_then(|log| log.number);
+        match (number, last) {
+            (Some(_), Some(last)) => writeln!(f, "records of core {} after its number {last}", core.0),
+            _ => writeln!(f, "records of core {}", core.0),
+        }
+    }
+
     fn write_missing<W: Write>(&self, f: &mut Formatter<W>, missing: Missing) -> fmt::Result {
-        let Event {
-            core,
-            number,
-            action,
-            ..
-        } = self.shown.event;
-        let (c, log, job) = (core.0, self.auditor.core(core), job_of(action));
+        let Event { core, action, .. } = self.shown.event;
+        let (c, job) = (core.0, job_of(action));
         f.write_str("missing: ")?;
-        match (missing, job, log) {
-            (Missing::Core, _, _) => writeln!(
-                f,
-                "core {c}; the system has {}",
-                self.system.cores()
-            ),
-            (Missing::Start, _, _) => writeln!(f, "boot of core {c}"),
-            (Missing::Restart, _, _) => writeln!(
-                f,
-                "the end of the log that core {c} began before"
-            ),
-            (
-                Missing::Records,
-                _,
-                Some(
-                    CoreLog {
-                        number: Some(last),
-                        ..
-                    },
-                ),
-            ) if number.is_some() => { writeln!(f, "records of core {c} after its number {last}") }
-            (Missing::Records, _, _) => writeln!(f, "records of core {c}"),
-            (Missing::Clock, _, _) => {
-                let last = log.map_or(0, |log| log.time);
-                writeln!(
-                    f,
-                    "a time from {last} on, that of the last record of core {c}"
-                )
+        match (missing, job) {
+            (Missing::Core, _) => writeln!(f, "core {c}; the system has {}", self.system.cores()),
+            (Missing::Start, _) => writeln!(f, "boot of core {c}"),
+            (Missing::Restart, _) => writeln!(f, "the end of the log that core {c} began before"),
+            (Missing::Records, _) => self.write_gap(f),
+            (Missing::Clock, _) => {
+                let last = self.auditor.core(core).map_or(0, |log| log.time);
+                writeln!(f, "a time from {last} on, that of the last record of core {c}")
             }
-            (Missing::Release, Some(job), _) => self.write_release(f, job.task),
-            (Missing::Request, _, _) => writeln!(f, "request by {}", self.job(job)),
-            (Missing::Room | Missing::Release, _, _) => {
-                writeln!(
-                    f,
-                    "room; {} jobs have not ended (see --backlog)",
-                    self.jobs.len()
-                )
-            }
+            (Missing::Release, Some(job)) => self.write_release(f, job.task),
+            (Missing::Request, _) => writeln!(f, "request by {}", self.job(job)),
+            (Missing::Room | Missing::Release, _) => match self.jobs.len() {
+                1 => f.write_str("room; 1 job has not ended (see --backlog)\n"),
+                jobs => writeln!(f, "room; {jobs} jobs have not ended (see --backlog)"),
+            },
         }
     }
 

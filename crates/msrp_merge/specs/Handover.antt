@@ -25,6 +25,7 @@ at n r = record { row = r; place = Some (record { number = n; polled = false }) 
 abbrev pub reads : ℕ → Row → Turn
 reads n r = record { row = r; place = Some (record { number = n; polled = true }) }
 
+-- the logs of both cores
 abbrev pub logs : List LogModel
 logs =
     record {
@@ -45,6 +46,7 @@ step tick place call = record { tick = tick; res = record { 0 = 0 }; place = pla
 abbrev book_of : List Entry → Book
 book_of entries = record { entries = entries; tick = 6; admitted = false; stopped = false }
 
+-- the books of both cores
 abbrev pub books : List Book
 books =
     book_of (step 0 0 (Ask 0) ∷ step 2 2 Leave ∷ [])

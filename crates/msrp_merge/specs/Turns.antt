@@ -11,6 +11,7 @@ pub record LogModel : Type 0 where
   pub ticks : ℕ
   pub turns : List Turn
 
+-- the rows of these turns
 abbrev pub rows_of : List Turn → List Row
 rows_of turns = map (λ x. x.row) turns
 
@@ -23,6 +24,7 @@ is_step Spin = true
 is_step Release = true
 is_step _ = false
 
+-- the turn has a place in the history of its resource
 abbrev pub has_place : Turn → Bool
 has_place x = is_some x.place
 

@@ -292,7 +292,7 @@ function timeText(ticks) {
   if (!facts.unit) return String(ticks);
   const time = Math.round(ticks * tickLength);
   const [unit, size] = UNITS.find(([, least]) => time >= least) || [facts.unit[1], 1];
-  return `${Number((time / size).toPrecision(8))} ${unit}`;
+  return `${Number((time / size).toPrecision(15))} ${unit}`;
 }
 
 const tickText = (tick) => (facts.unit ? `tick ${tick} (${timeText(tick)})` : `tick ${tick}`);
@@ -344,7 +344,7 @@ function describe(lane, tick) {
   if (lane.what === 'ceiling') return `${tickText(tick)}, core ${lane.core}: ceiling ${block ? block.value : 0}`;
   if (lane.what === 'queue') {
     if (!block) return `${tickText(tick)}: nobody is in the queue of ${lane.name}`;
-    const waiting = block.value ? `, ${block.value} more wait` : '';
+    const waiting = block.value ? `, ${block.value} more wait${block.value === 1 ? 's' : ''}` : '';
     return `${tickText(tick)}: ${jobText(block)} is first in the queue of ${lane.name}${waiting}${spanText(block)}`;
   }
   const place = placeText(tick, lane.core);
@@ -872,7 +872,8 @@ function element(name, content = '', className = '') {
 }
 
 function verdictText() {
-  if (!facts.fault) return `A legal run: all ${plural(legalRows, 'row')} obey the plan`;
+  const obeys = legalRows === 1 ? 'its row obeys' : `all ${plural(legalRows, 'row')} obey`;
+  if (!facts.fault) return `A legal run: ${obeys} the plan`;
   const [row, rule] = facts.fault;
   const where = facts.broken ? `row ${row}` : `its end after ${plural(row - 1, 'row')}`;
   return `Not a legal run: ${where} violates rule ${rule}`;
@@ -900,7 +901,7 @@ function whyLine(text) {
   const pattern = /\b(?:row (\d+)|tick (\d+)|([A-Za-z_][A-Za-z_0-9]*),(\d+)(?=[,\s)]|$))/g;
   let end = 0;
   for (const found of text.matchAll(pattern)) {
-    const act = whyTarget(found);
+    const act = !(found[3] && /,\d+,$/.test(text.slice(0, found.index))) && whyTarget(found);
     if (!act) continue;
     line.append(text.slice(end, found.index), linkButton(found[0], act));
     end = found.index + found[0].length;

@@ -5,7 +5,7 @@ pub use Rattle.msrp_picture.specs.Blocks.{ceiling_after, ceiling_tick, first_of,
 unfoldable pub use Rattle.msrp_picture.specs.Blocks.{ceilings, joined}
 pub use Rattle.msrp_picture.specs.Rows.{is_job_of, rows_in, task_rows, ticks_begun}
 pub use Rattle.msrp_picture.specs.Shapes.{after_last, life_of, task_lives}
-pub use Rattle.msrp_picture.specs.Types.{Block, JobId, Lane, Life, Look, PlanModel, ResId, Row}
+pub use Rattle.msrp_picture.specs.Types.{Block, JobId, Lane, Life, Look, ResId, Row}
 pub use Rattle.msrp_plan.proofs.Lists.Filters.{count_within}
 pub use Rattle.msrp_plan.proofs.Runs.Verdicts.{fault_append}
 pub use Rattle.msrp_plan.specs.Ceiling.{ceiling}

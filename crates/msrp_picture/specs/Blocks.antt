@@ -1,9 +1,9 @@
 -- The blocks of a picture: of rows, that is stretches of ticks in which one job runs on a core, or
 -- does the same; of critical sections, of the ceilings of cores, and of the queues of resources.
 use Rattle.std.specs.Prelude.{◌∷◌, ◌&&◌, ◌||◌, if◌then◌else◌, ◌==◌, ◌≡◌, ◌+◌, ◌-◌, ◌*◌, ◌++◌, filter_map}
-use Rattle.msrp_plan.specs.Common.{ℕ, List, [], Bool, true, false, Option, Some, None, is_some, is_none, cons_option, drop, find, length, map, nat_lt, take, flat_map, range_with_len, option_map, ceiling, fault_in, fifo, is_grant, is_of, is_release, same_res, same_kind, same_choice}
+use Rattle.msrp_plan.specs.Common.{ℕ, List, [], PlanModel, Bool, true, false, Option, Some, None, is_some, is_none, cons_option, drop, find, length, map, nat_lt, take, flat_map, range_with_len, option_map, ceiling, fault_in, fifo, is_grant, is_of, is_release, same_res, same_kind, same_choice}
 use Rattle.msrp_plan.specs.declared.rows.Kind.TheVariants.{Lock, Take, Unlock}
-use Rattle.msrp_picture.specs.Types.{Block, CoreId, JobId, Kind, Lane, Look, PlanModel, ResId, Row, TaskId}
+use Rattle.msrp_picture.specs.Types.{Block, CoreId, JobId, Lane, Look, ResId, Row, TaskId}
 use Rattle.msrp_picture.specs.Rows.{is_job_of, ticks_begun}
 use Rattle.msrp_picture.specs.declared.shapes.Lane.TheVariants.{Ceiling as CeilingLane, Core, Queue, Task}
 use Rattle.msrp_picture.specs.declared.shapes.Look.TheVariants.{Ceiling, Does, First, Holds, Runs}
@@ -63,15 +63,9 @@ abbrev pub EachRowInOneBlock : Lane → Bool → List Row → Type 0
 EachRowInOneBlock lane is_legal rows = flat_map ticks_of (merged (shown_rows lane is_legal rows)) ≡ shown_rows lane is_legal rows
 
 -- ---- critical sections: from the row that gives a job a resource to the one that takes it back
-abbrev pub gets : Kind → Bool
-gets k = same_kind k Lock || (same_kind k Take || is_grant k)
-
-abbrev pub gives_back : Kind → Bool
-gives_back k = same_kind k Unlock || is_release k
-
 -- the section that begins with a row ends with this one
 abbrev pub ends_section : Row → Row → Bool
-ends_section r s = same_choice r.job s.job && (same_res r.res s.res && gives_back s.kind)
+ends_section r s = same_choice r.job s.job && (same_res r.res s.res && (same_kind s.kind Unlock || is_release s.kind))
 
 -- the tick after that row, and where there is none the end of all rows
 abbrev pub section_end : ℕ → Option Row → ℕ
@@ -81,7 +75,7 @@ section_end end (Some s) = s.tick + 1
 -- the section that begins with the first of these rows, if one does
 abbrev pub first_section : TaskId → ℕ → List Row → List Block
 first_section t end [] = []
-first_section t end (r ∷ rest) = if gets r.kind then lasting (Task t) r.tick (section_end end (find (ends_section r) rest)) Holds r.job r.res ∷ [] else []
+first_section t end (r ∷ rest) = if same_kind r.kind Lock || (same_kind r.kind Take || is_grant r.kind) then lasting (Task t) r.tick (section_end end (find (ends_section r) rest)) Holds r.job r.res ∷ [] else []
 
 -- the sections of a task's rows, where all rows end with a tick
 abbrev pub sections : TaskId → ℕ → List Row → List Block

@@ -1,7 +1,7 @@
 -- What is drawn of a trace: its rows, those before the fault and the others, and the ticks.
-use Rattle.msrp_plan.specs.Common.{ℕ, List, [], Bool, false, Option, Some, None, Ok, Err, drop, length, min, max, nat_lt, nat_le, slice_range, take, unwrap_or, ⊤}
+use Rattle.msrp_plan.specs.Common.{ℕ, List, [], PlanModel, Result, Bool, false, Option, Some, None, Ok, Err, drop, length, min, max, nat_lt, nat_le, slice_range, take, unwrap_or, ⊤}
 use Rattle.std.specs.Prelude.{◌==◌, ◌+◌, ◌-◌, ◌*◌, ◌/◌, ◌%◌, ◌&&◌, if◌then◌else◌, filter}
-use Rattle.msrp_picture.specs.Types.{Asked, Block, Event, Fault, JobId, PlanModel, Result, Row, Window}
+use Rattle.msrp_picture.specs.Types.{Asked, Block, Event, Fault, JobId, Row, Window}
 use Rattle.msrp_picture.specs.declared.windows.TheConstants.{SHORT_RUN}
 
 -- the rows before the fault that the verdict names: rows count from 1
@@ -22,6 +22,7 @@ ticks_begun plan rows = length rows / plan.cores + min 1 (length rows % plan.cor
 abbrev pub rows_in : PlanModel → List Row → ℕ → List Row
 rows_in plan rows t = slice_range rows (t * plan.cores) ((t + 1) * plan.cores)
 
+-- the job is one of the task's
 abbrev pub is_job_of : ℕ → Option JobId → Bool
 is_job_of t None = false
 is_job_of t (Some j) = j.task.0 == t
@@ -31,13 +32,12 @@ abbrev pub task_rows : ℕ → List Row → List Row
 task_rows t rows = filter (λ r. is_job_of t r.job) rows
 
 -- ---- ticks
--- these ticks, if there is one and all of them are the plan's
-abbrev pub within : PlanModel → ℕ → ℕ → Option Window
-within plan from to = if nat_lt from to && nat_le to plan.ticks then Some (record { from = from; to = to }) else None
-
--- the ticks that are asked for, if the plan has such ticks
+-- the ticks that are asked for, if there is one and all of them are the plan's
 abbrev pub window_of : PlanModel → Asked → Option Window
-window_of plan asked = within plan (unwrap_or asked.from 0) (unwrap_or asked.to (min plan.ticks (unwrap_or asked.from 0 + SHORT_RUN)))
+window_of plan asked =
+    let from = unwrap_or asked.from 0 in
+    let to = unwrap_or asked.to (min plan.ticks (from + SHORT_RUN)) in
+    if nat_lt from to && nat_le to plan.ticks then Some (record { from = from; to = to }) else None
 
 -- some ticks of the block are drawn
 abbrev pub is_seen : Window → Block → Bool

@@ -1,9 +1,9 @@
 -- What there is to see in a picture. Of the rows from the fault on only who runs and what jobs do
 -- is shown, and as not legal; nothing else is drawn after the fault.
 use Rattle.std.specs.Prelude.{◌≡◌, ◌∷◌, ◌+◌, ◌++◌, if◌then◌else◌, filter, filter_map}
-use Rattle.msrp_plan.specs.Common.{ℕ, List, [], Option, Some, None, Ok, Err, IfSome, IsSomeAnd, fold, length, map, ⊤, flat_map, range_with_len, resources, is_finished, is_global, is_row_of, jobs_of, release, task_of}
+use Rattle.msrp_plan.specs.Common.{ℕ, List, [], PlanModel, Result, Option, Some, None, Ok, Err, IfSome, IsSomeAnd, fold, length, map, ⊤, flat_map, range_with_len, resources, is_finished, is_global, is_row_of, jobs_of, release, task_of}
 use Rattle.msrp_audit.specs.Audits.{IsDueRow}
-use Rattle.msrp_picture.specs.Types.{Block, Event, Fault, JobId, Life, Look, Moment, PlanModel, Result, Row, Shapes, Violation, Window}
+use Rattle.msrp_picture.specs.Types.{Block, Event, Fault, JobId, Life, Look, Moment, Row, Shapes, Violation, Window}
 use Rattle.msrp_picture.specs.Blocks.{ceiling_tick, ceilings, lasting, merged, queue_ticks, row_blocks, sections}
 use Rattle.msrp_picture.specs.Rows.{is_at, is_seen, task_rows, ticks_begun}
 use Rattle.msrp_picture.specs.declared.shapes.Lane.TheVariants.{Core, Task}
@@ -36,6 +36,7 @@ lives plan rows = flat_map (task_lives plan rows) (range_with_len 0 (length plan
 abbrev pub life_block : Look → ℕ → Life → Block
 life_block look first life = lasting (Task life.job.task) first life.end look (Some life.job) None
 
+-- a moment in the life of a job
 abbrev pub event_of : Moment → ℕ → Life → Event
 event_of moment tick life = record { moment = moment; tick = tick; job = life.job }
 

@@ -1,12 +1,9 @@
 -- The types that the definitions of pictures speak of.
-pub use Rattle.std.specs.declared.result.Result.{Result}
-pub use Rattle.msrp_plan.specs.Plan.{PlanModel}
 pub use Rattle.msrp_plan.specs.declared.faults.Fault.{Fault}
 pub use Rattle.msrp_plan.specs.declared.ids.CoreId.{CoreId}
 pub use Rattle.msrp_plan.specs.declared.ids.JobId.{JobId}
 pub use Rattle.msrp_plan.specs.declared.ids.ResId.{ResId}
 pub use Rattle.msrp_plan.specs.declared.ids.TaskId.{TaskId}
-pub use Rattle.msrp_plan.specs.declared.rows.Kind.{Kind}
 pub use Rattle.msrp_plan.specs.declared.rows.Row.{Row}
 pub use Rattle.msrp_picture.specs.declared.lives.Life.{Life}
 pub use Rattle.msrp_picture.specs.declared.shapes.Block.{Block}

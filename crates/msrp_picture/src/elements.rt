@@ -147,10 +147,8 @@ impl Canvas<'_> {
         let (class, label) = (class_of(block), label_of(self.scene, block)?);
         let after = if block.is_legal { "" } else { " after" };
         let words = block_words(self.scene, block)?;
-        write!(
-            self.text,
-            "<g class=\"{class}{after}\"><title>{words}</title>"
-        )?;
+        write!(self.text, "<g class=\"{class}{after}\">")?;
+        write!(self.text, "<title>{words}</title>")?;
         self.rect(x, width, room)?;
         let has_room = width_of(&label).saturating_add(3) <= width && 12 <= room.height;
         if !label.is_empty() && has_room {
@@ -277,12 +275,8 @@ impl Canvas<'_> {
     // Which ticks are drawn, and the verdict.
     fn caption(&mut self) -> Written {
         let ticks = ticks_words(self.scene)?;
-        self.note(
-            "title",
-            20,
-            24,
-            &format_args!("Schedule under MSRP, {ticks}"),
-        )?;
+        let title = format_args!("Schedule under MSRP, {ticks}");
+        self.note("title", 20, 24, &title)?;
         let verdict = verdict_words(self.scene.alloc, self.scene.found)?;
         self.note("caption", 20, 42, &verdict)
     }

@@ -5,7 +5,7 @@ ghost use Rattle.msrp_plan.specs.Common.{ℕ, [], List, IfOk, OnOk, cons_option,
 ghost use Rattle.msrp_plan.specs.Requests.{HasTaken};
 ghost use Rattle.msrp_plan.specs.declared.rows.Row.{Row as TraceRow};
 ghost use Rattle.msrp_audit.specs.Audits.{HasFed};
-ghost use Rattle.msrp_picture.specs.Blocks.{ceiling_after, ceiling_tick, ceilings, ends_section, first_of, first_section, gets, gives_back, merged, queue_ticks, section_end, sections};
+ghost use Rattle.msrp_picture.specs.Blocks.{ceiling_after, ceiling_tick, ceilings, ends_section, first_of, first_section, merged, queue_ticks, section_end, sections};
 ghost use Rattle.msrp_picture.specs.Rows.{rows_in};
 
 use crate::Added;
@@ -17,23 +17,11 @@ use msrp_audit::Auditor;
 use msrp_plan::{CoreId, JobId, Kind, Memory, Plan, Requests, ResId, Row, TaskId};
 use std::alloc::Global;
 
-fn gets(kind: Kind) -> bool
-    ensures { result ≡ gets kind }
-{
-    matches!(kind, Kind::Lock | Kind::Take | Kind::Grant)
-}
-
-fn gives_back(kind: Kind) -> bool
-    ensures { result ≡ gives_back kind }
-{
-    matches!(kind, Kind::Unlock | Kind::Release)
-}
-
 // Whether the section that begins with a row ends with this one.
 fn ends_section(row: &Row, next: &Row) -> bool
     ensures { result ≡ ends_section row.now next.now }
 {
-    row.job == next.job && row.res == next.res && gives_back(next.kind)
+    row.job == next.job && row.res == next.res && matches!(next.kind, Kind::Unlock | Kind::Release)
 }
 
 // The first of these rows with which the section of a row ends.
@@ -57,7 +45,7 @@ fn push_section(blocks: &mut Vec<Block>, task: TaskId, end: u64, rows: &[Row]) -
     ensures { OnOk result (blocks.new.items ≡ blocks.old.items ++ first_section task end rows.now) }
 {
     match rows {
-        [row, rest @ ..] if gets(row.kind) => {
+        [row, rest @ ..] if matches!(row.kind, Kind::Lock | Kind::Take | Kind::Grant) => {
             let end = section_end(end, row, rest);
             let (lane, first) = (Lane::Task(task), row.tick as u64);
             blocks.push(lasting(lane, first, end, Look::Holds, row.job, row.res))?;

@@ -126,10 +126,8 @@ impl Layout {
 
     /// The place of a lane, if it is drawn.
     pub(crate) fn room(&self, lane: Lane) -> Option<Room> {
-        self.lanes
-            .iter()
-            .find(|place| place.0 == lane)
-            .map(|place| place.1)
+        let mut places = self.lanes.iter();
+        places.find(|place| place.0 == lane).map(|place| place.1)
     }
 
     /// Where a tick begins, or the next edge of the lanes if it isn't drawn.

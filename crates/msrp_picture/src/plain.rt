@@ -205,10 +205,8 @@ impl Lines<'_> {
         write!(text, "\n{:<18}{}\n", "tick", axis(scene.alloc, first, end)?)?;
         for (label, cells) in &self.lines {
             let cells = cells.chunks(LINE_TICKS as usize).nth(part as usize);
-            let cells = str::from_utf8(cells.unwrap_or(&[]))
-                .unwrap_or("")
-                .trim_end();
-            writeln!(text, "{label:<18}{cells}")?;
+            let cells = str::from_utf8(cells.unwrap_or(&[])).unwrap_or("");
+            writeln!(text, "{label:<18}{}", cells.trim_end())?;
         }
         Ok(())
     }
@@ -253,11 +251,8 @@ fn lines_of<'a>(scene: &'a Scene<'a>, shapes: &'a Shapes) -> Result<Lines<'a>, A
 /// A picture in plain text.
 pub(crate) fn text(scene: &Scene<'_>, shapes: &Shapes) -> Text {
     let (lines, mut text) = (lines_of(scene, shapes)?, String::new(scene.alloc));
-    let (verdict, ticks) = (
-        verdict_words(scene.alloc, scene.found)?,
-        ticks_words(scene)?,
-    );
-    write!(text, "{verdict}\n{ticks}\n")?;
+    let verdict = verdict_words(scene.alloc, scene.found)?;
+    write!(text, "{verdict}\n{}\n", ticks_words(scene)?)?;
     for part in 0..scene.window.ticks().div_ceil(LINE_TICKS) {
         lines.write_part(&mut text, part)?;
     }

@@ -11,6 +11,7 @@ use Rattle.msrp_plan.specs.declared.rows.Kind.{Kind}
 use Rattle.msrp_plan.specs.declared.rows.Kind.TheVariants.{Idle, Run, Lock, Unlock, Take, Queue, Spin, Grant, Release}
 use Rattle.msrp_plan.specs.declared.rows.Row.{Row}
 
+-- the same resource, or none in both
 abbrev pub same_res : Option ResId → Option ResId → Bool
 same_res None None = true
 same_res (Some a) (Some b) = a.0 == b.0
@@ -22,6 +23,7 @@ res_of_unit RunUnit = None
 res_of_unit (LockUnit g) = Some g
 res_of_unit (UnlockUnit g) = Some g
 
+-- the unit is a lock or an unlock of a global resource
 abbrev pub is_global_unit : PlanModel → Op → Bool
 is_global_unit plan RunUnit = false
 is_global_unit plan (LockUnit g) = is_global plan g.0
@@ -39,6 +41,7 @@ allows true true (LockUnit g) Spin = true
 allows true queued (UnlockUnit g) Release = true
 allows _ _ _ _ = false
 
+-- a row of an idle core
 abbrev pub is_idle : Kind → Bool
 is_idle Idle = true
 is_idle _ = false

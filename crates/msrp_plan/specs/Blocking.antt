@@ -75,6 +75,7 @@ pub record IsBlocker (plan : PlanModel) (pre : List Row) (r : Row) (j k : JobId)
 abbrev pub HasBlockers : PlanModel → List Row → Row → Type 0
 HasBlockers plan pre r = (j : JobId) → Contains (jobs plan) j → blocks plan j pre r ≡ true → (k : JobId) × IsBlocker plan pre r j k
 
+-- each row of a run that blocks a job has such a blocker
 abbrev pub BlockedByBegunSections : PlanModel → List Row → Type 0
 BlockedByBegunSections plan rows = EachAfter (HasBlockers plan) [] rows
 

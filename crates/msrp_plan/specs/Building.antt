@@ -20,6 +20,7 @@ use Rattle.msrp_plan.specs.declared.units.Step.TheVariants.{Run, Lock, Unlock}
 abbrev pub empty_plan : ℕ → ℕ → PlanModel
 empty_plan cores ticks = record { cores = cores; ticks = ticks; resources = []; tasks = [] }
 
+-- a plan with one more resource
 abbrev pub with_resource : PlanModel → List ℕ → PlanModel
 with_resource plan name = record plan { resources = plan.resources ++ name ∷ [] }
 
@@ -32,6 +33,7 @@ abbrev pub AreNew : ReleaseTimes → Type 0
 AreNew (Every period offset) = ⊤
 AreNew (Listed ticks) = ticks ≡ []
 
+-- a plan with one more task
 abbrev pub with_task : PlanModel → TaskModel → PlanModel
 with_task plan task = record plan { tasks = plan.tasks ++ task ∷ [] }
 
@@ -66,25 +68,31 @@ with_more_ticks tick task = record task { times = with_tick task.times tick }
 abbrev pub with_release : PlanModel → ℕ → PlanModel
 with_release plan tick = record plan { tasks = with_newest (with_more_ticks tick) plan.tasks }
 
+-- the fault if the test holds, and otherwise what the later checks find
 abbrev pub fault_if : Bool → PlanFault → Option PlanFault → Option PlanFault
 fault_if test fault rest = if test then Some fault else rest
 
+-- the first of two faults, if there is one
 abbrev pub first_fault : Option PlanFault → Option PlanFault → Option PlanFault
 first_fault None rest = rest
 first_fault (Some fault) rest = Some fault
 
+-- the number is in this range, whose ends belong to it
 abbrev pub is_within : ℕ → ℕ → ℕ → Bool
 is_within low high n = nat_le low n && nat_le n high
 
+-- a number of cores or of ticks outside its range
 abbrev pub new_fault : ℕ → ℕ → Option PlanFault
 new_fault cores ticks = fault_if (not (is_within 1 most_cores cores && is_within 1 most_ticks ticks)) Limit None
 
+-- one more resource: its name is no name, is taken, or is one too many
 abbrev pub resource_fault : PlanModel → List ℕ → Option PlanFault
 resource_fault plan name =
     fault_if (not (is_name name)) Name (
     fault_if (has_name plan.resources name) Taken (
     fault_if (nat_le most_resources (length plan.resources)) Limit None))
 
+-- the units nest properly, and nothing is held after them
 abbrev pub is_none_held : Option (List ℕ) → Bool
 is_none_held None = false
 is_none_held (Some []) = true
@@ -106,9 +114,11 @@ abbrev pub are_in_range : ReleaseTimes → Bool
 are_in_range (Every period offset) = is_within 1 longest_time period && nat_le offset longest_time
 are_in_range (Listed ticks) = true
 
+-- a task's times and its relative deadline are in their ranges
 abbrev pub is_in_range : TaskModel → Bool
 is_in_range task = are_in_range task.times && is_within 1 longest_time task.deadline
 
+-- one more task, after the end of the newest one
 abbrev pub task_fault : PlanModel → TaskModel → Option PlanFault
 task_fault plan task =
     first_fault (end_fault plan) (
@@ -126,6 +136,7 @@ abbrev pub is_above : Option ℕ → ℕ → Bool
 is_above None tick = true
 is_above (Some before) tick = nat_lt before tick
 
+-- one more tick of a list: too late or one too many, or not above the one before it
 abbrev pub tick_fault : List ℕ → ℕ → Option PlanFault
 tick_fault ticks tick =
     fault_if (nat_lt longest_time tick || nat_le most_releases (length ticks)) Limit (
@@ -146,11 +157,13 @@ abbrev pub is_improper : Option (List ℕ) → Op → Bool
 is_improper None u = true
 is_improper (Some held) u = is_none (held_with held u)
 
+-- the step locks or unlocks in the wrong order
 abbrev pub is_misnested : List Op → Step → Bool
 is_misnested us (Run n) = false
 is_misnested us (Lock g) = is_improper (held_after us) (LockUnit g)
 is_misnested us (Unlock g) = is_improper (held_after us) (UnlockUnit g)
 
+-- how many resources are held
 abbrev pub held_count : Option (List ℕ) → ℕ
 held_count None = 0
 held_count (Some held) = length held
@@ -161,6 +174,7 @@ is_too_much us (Run n) = (n == 0) || nat_lt most_units (length us + n)
 is_too_much us (Lock g) = nat_le most_units (length us) || nat_le most_held (held_count (held_after us))
 is_too_much us (Unlock g) = nat_le most_units (length us)
 
+-- one more step of the newest task
 abbrev pub op_fault : PlanModel → Step → Option PlanFault
 op_fault plan step =
     fault_if (lacks_release (newest_task plan).times) Releases (
@@ -168,10 +182,12 @@ op_fault plan step =
     fault_if (is_misnested (newest_units plan) step) Nesting (
     fault_if (is_too_much (newest_units plan) step) Limit None)))
 
+-- the unit locks a global resource
 abbrev pub is_global_lock : PlanModel → Option Op → Bool
 is_global_lock plan (Some (LockUnit g)) = is_global plan g.0
 is_global_lock plan _ = false
 
+-- a global resource is held
 abbrev pub holds_global : PlanModel → Option (List ℕ) → Bool
 holds_global plan None = false
 holds_global plan (Some held) = list_any (is_global plan) held
@@ -180,6 +196,7 @@ holds_global plan (Some held) = list_any (is_global plan) held
 abbrev pub nests_global : PlanModel → List Op → Bool
 nests_global plan us = list_any (λ n. is_global_lock plan (slice_get us n) && holds_global plan (held_after (take n us))) (range_with_len 0 (length us))
 
+-- the end of the plan, after that of its newest task
 abbrev pub finish_fault : PlanModel → Option PlanFault
 finish_fault plan =
     first_fault (end_fault plan) (

@@ -1,5 +1,5 @@
 -- What a clause says of a source and of a sink, and which text a sink has left in its writer.
-use Rattle.std.specs.Prelude.{◌≡◌, ℕ, Bool, true, false, ◌||◌, not, nat_le, List, [], ◌++◌, Option, Some}
+use Rattle.std.specs.Prelude.{◌≡◌, ℕ, Bool, true, false, ◌||◌, not, nat_le, List, [], ◌++◌, Option, Some, Result, IsErr, OnErr, OnOk}
 use Rattle.std.specs.Io.KnownBytes.{Appends}
 use Rattle.msrp_plan.specs.Limits.{most_bytes, most_calls}
 use Rattle.msrp_plan.specs.declared.bytes.Source.{Source}
@@ -37,6 +37,12 @@ source_ended s = is_ended s.state
 -- no read of the source failed or met the end
 abbrev pub is_open : {R : Type 0} → Source R → Bool
 is_open s = not (source_failed s || source_ended s)
+
+-- a read fails exactly if the source has failed after it, and then each later read does, unchanged
+pub record FailsForGood {R E : Type 0} (old new : Source R) (result : Result ℕ E) : Type 0 where
+  pub fault : OnErr result (source_failed new ≡ true)
+  pub good : OnOk result (source_failed new ≡ false)
+  pub failed : source_failed old ≡ true → IsErr result × (new ≡ old)
 
 -- how many bytes the source has given
 abbrev pub source_given : {R : Type 0} → Source R → ℕ

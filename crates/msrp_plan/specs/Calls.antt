@@ -37,6 +37,7 @@ abbrev pub IsRegularFrom : Phase → List ResCall → Type 0
 IsRegularFrom claim [] = ⊤
 IsRegularFrom claim (s ∷ calls) = IsDueCall claim s.0 s.1 × IsRegularFrom (claim_with claim s.0 s.1) calls
 
+-- each call was allowed, from a core that holds and awaits nothing
 abbrev pub IsRegular : List ResCall → Type 0
 IsRegular calls = IsRegularFrom Free calls
 

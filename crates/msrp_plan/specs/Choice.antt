@@ -16,6 +16,7 @@ use Rattle.msrp_plan.specs.declared.rows.Row.{Row}
 abbrev pub key_cmp : JobKey → JobKey → Ordering
 key_cmp a b = ordering_then (nat_cmp a.deadline b.deadline) (ordering_then (nat_cmp a.release b.release) (ordering_then (nat_cmp a.task b.task) (nat_cmp a.k b.k)))
 
+-- a job comes before another by its key
 abbrev pub is_before : PlanModel → JobId → JobId → Bool
 is_before plan i j = is_lt (key_cmp (key plan i) (key plan j))
 

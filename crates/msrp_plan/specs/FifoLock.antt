@@ -9,13 +9,16 @@ pub record FifoLock : Type 0 where
   pub queue : List ℕ
   pub granted : Bool
 
+-- a lock that nobody has requested
 abbrev pub free_lock : FifoLock
 free_lock = record { queue = []; granted = false }
 
+-- the core is in the queue
 abbrev pub IsAmong : List ℕ → ℕ → Type 0
 IsAmong [] c = ⊥
 IsAmong (d ∷ q) c = (d ≡ c) ⊎ IsAmong q c
 
+-- the core is the first in the queue
 abbrev pub IsFirst : List ℕ → ℕ → Type 0
 IsFirst [] c = ⊥
 IsFirst (d ∷ q) c = d ≡ c
@@ -28,6 +31,7 @@ Answers lock c (Poll true) = IsFirst lock.queue c × (lock.granted ≡ false)
 Answers lock c (Poll false) = IsAmong lock.queue c × ¬ IsFirst lock.queue c
 Answers lock c Leave = IsFirst lock.queue c × (lock.granted ≡ true)
 
+-- the queue after its first has left
 abbrev pub without_first : List ℕ → List ℕ
 without_first [] = []
 without_first (c ∷ q) = q
@@ -46,6 +50,7 @@ granted_after g (Poll true) = true
 granted_after g (Poll false) = g
 granted_after g Leave = false
 
+-- the lock after a call
 abbrev pub lock_after : FifoLock → ℕ → Call → FifoLock
 lock_after lock c call = record { queue = queue_after lock.queue c call; granted = granted_after lock.granted call }
 
@@ -54,5 +59,6 @@ abbrev pub LegalFrom : FifoLock → List (ℕ × Call) → Type 0
 LegalFrom lock [] = ⊤
 LegalFrom lock (s ∷ h) = Answers lock s.0 s.1 × LegalFrom (lock_after lock s.0 s.1) h
 
+-- a history of calls that a free lock answers so
 abbrev pub Legal : List (ℕ × Call) → Type 0
 Legal history = LegalFrom free_lock history

@@ -24,13 +24,16 @@ jobs plan = flat_map (jobs_of plan) (range_with_len 0 (length plan.tasks))
 abbrev pub jobs_on : PlanModel → ℕ → List JobId
 jobs_on plan c = filter (λ j. core_of plan j == c) (jobs plan)
 
+-- the same task and the same number
 abbrev pub same_job : JobId → JobId → Bool
 same_job i j = (i.task.0 == j.task.0) && (i.k == j.k)
 
+-- there is a job, and it is this one
 abbrev pub is_job : Option JobId → JobId → Bool
 is_job None j = false
 is_job (Some i) j = same_job i j
 
+-- the row is one of the job's
 abbrev pub is_row_of : JobId → Row → Bool
 is_row_of j r = is_job r.job j
 
@@ -44,6 +47,7 @@ is_waiting _ = false
 abbrev pub done : JobId → List Row → ℕ
 done j pre = count_by (λ r. is_row_of j r && not (is_waiting r.kind)) pre
 
+-- the job is released by this tick
 abbrev pub is_released : PlanModel → ℕ → JobId → Bool
 is_released plan t j = nat_le (release plan j) t
 

@@ -43,6 +43,7 @@ is_acquiring _ = false
 abbrev pub is_acquisition : ℕ → Row → Bool
 is_acquisition g r = is_on g r.res && is_acquiring r.kind
 
+-- a row in which a wait ends
 abbrev pub is_grant : Kind → Bool
 is_grant Grant = true
 is_grant _ = false
@@ -51,6 +52,7 @@ is_grant _ = false
 abbrev pub is_grant_of : JobId → ℕ → Row → Bool
 is_grant_of j g r = is_row_of j r && (is_on g r.res && is_grant r.kind)
 
+-- a row in which a job polls unsuccessfully
 abbrev pub is_spin : Kind → Bool
 is_spin Spin = true
 is_spin _ = false

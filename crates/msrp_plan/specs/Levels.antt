@@ -18,6 +18,7 @@ greatest ns = fold max 0 ns
 abbrev pub level_of : PlanModel → TaskModel → ℕ
 level_of plan task = length (distinct (filter (nat_lt task.deadline) (map (λ u. u.deadline) plan.tasks))) + 1
 
+-- the preemption level of a task, by its number
 abbrev pub level : PlanModel → ℕ → ℕ
 level plan t = level_of plan (task_at plan t)
 

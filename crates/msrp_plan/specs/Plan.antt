@@ -24,6 +24,7 @@ pub record PlanModel : Type 0 where
 abbrev pub no_task : TaskModel
 no_task = record { name = []; core = 0; times = Every 1 0; deadline = 1; units = [] }
 
+-- the task of this number
 abbrev pub task_at : PlanModel → ℕ → TaskModel
 task_at plan t = slice_index_or plan.tasks t no_task
 

@@ -9,15 +9,18 @@ use Rattle.msrp_plan.specs.declared.rows.Kind.{Kind}
 use Rattle.msrp_plan.specs.declared.rows.Kind.TheVariants.{Take, Queue, Spin, Grant, Release}
 use Rattle.msrp_plan.specs.declared.rows.Row.{Row}
 
+-- the resource is this one
 abbrev pub is_on : ℕ → Option ResId → Bool
 is_on g None = false
 is_on g (Some r) = r.0 == g
 
+-- a row that requests a resource: it is taken at once, or the job joins the queue
 abbrev pub is_request : Kind → Bool
 is_request Take = true
 is_request Queue = true
 is_request _ = false
 
+-- a row that releases a global resource
 abbrev pub is_release : Kind → Bool
 is_release Release = true
 is_release _ = false
@@ -26,6 +29,7 @@ is_release _ = false
 abbrev pub requester : ℕ → Row → Option JobId
 requester g r = if is_on g r.res && is_request r.kind then r.job else None
 
+-- the row releases this resource
 abbrev pub is_release_of : ℕ → Row → Bool
 is_release_of g r = is_on g r.res && is_release r.kind
 
@@ -33,10 +37,12 @@ is_release_of g r = is_on g r.res && is_release r.kind
 abbrev pub fifo : ℕ → List Row → List JobId
 fifo g pre = drop (count_by (is_release_of g) pre) (filter_map (requester g) pre)
 
+-- nobody is in the queue
 abbrev pub is_free : List JobId → Bool
 is_free [] = true
 is_free (i ∷ is) = false
 
+-- the job is the first in the queue
 abbrev pub is_first : List JobId → Option JobId → Bool
 is_first [] j = false
 is_first (i ∷ is) j = is_job j i

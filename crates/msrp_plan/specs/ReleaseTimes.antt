@@ -13,6 +13,7 @@ abbrev pub tick_of : ReleaseTimes → ℕ → Option ℕ
 tick_of (Every period offset) k = Some (offset + k * period)
 tick_of (Listed ticks) k = slice_get ticks k
 
+-- the releases are a list, not a period and an offset
 abbrev pub is_listed : ReleaseTimes → Bool
 is_listed (Every period offset) = false
 is_listed (Listed ticks) = true
@@ -44,6 +45,7 @@ pub record AreListed (ticks : List ℕ) : Type 0 where
   pub soon : All (λ tick. tick ≤ longest_time) ticks
   pub rising : IsStrictlyIncreasing ticks
 
+-- release times that a task may have
 abbrev pub AreTimes : ReleaseTimes → Type 0
 AreTimes (Every period offset) = ArePeriodic period offset
 AreTimes (Listed ticks) = AreListed ticks

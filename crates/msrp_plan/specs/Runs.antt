@@ -18,6 +18,7 @@ had_turn c t pre = list_any (λ r. (r.tick == t) && (r.core.0 == c)) pre
 abbrev pub is_in_turn : PlanModel → List Row → Row → Bool
 is_in_turn plan pre r = (r.tick == length pre / plan.cores) && (nat_lt r.core.0 plan.cores && not (had_turn r.core.0 r.tick pre))
 
+-- the job, if there is one, is a job of the core
 abbrev pub is_on_core : PlanModel → ℕ → Option JobId → Bool
 is_on_core plan c None = true
 is_on_core plan c (Some j) = list_any (same_job j) (jobs_on plan c)
@@ -26,6 +27,7 @@ is_on_core plan c (Some j) = list_any (same_job j) (jobs_on plan c)
 abbrev pub is_of_core : PlanModel → Row → Bool
 is_of_core plan r = is_on_core plan r.core.0 r.job
 
+-- the same job, or none in both
 abbrev pub same_choice : Option JobId → Option JobId → Bool
 same_choice None None = true
 same_choice (Some i) (Some j) = same_job i j
@@ -39,6 +41,7 @@ is_chosen plan pre r = same_choice r.job (choice plan r.core.0 r.tick pre)
 abbrev pub is_next_action : PlanModel → List Row → Row → Bool
 is_next_action plan pre r = does_next plan pre r.job r
 
+-- the row's reply on its resource, if it has one, is that of the queue
 abbrev pub replies_on : List Row → Option ResId → Row → Bool
 replies_on pre None r = true
 replies_on pre (Some g) r = is_reply_of (fifo g.0 pre) r

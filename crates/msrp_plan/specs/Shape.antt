@@ -11,6 +11,7 @@ has_shape Idle job res = is_none job && is_none res
 has_shape Run job res = is_some job && is_none res
 has_shape _ job res = is_some job && is_some res
 
+-- a row in which a job joins a queue
 abbrev pub is_queue : Kind → Bool
 is_queue Queue = true
 is_queue _ = false
@@ -49,6 +50,7 @@ shape_of_kind Grant job res = refl
 shape_of_kind Spin job res = refl
 shape_of_kind Release job res = refl
 
+-- so each row carries an ahead only where its kind may
 pub carrier_of_kind : (kind : Kind) (carries : Bool) (ahead : ℕ) → may_carry kind (ahead_of_kind kind carries ahead) ≡ true
 carrier_of_kind Idle carries ahead = refl
 carrier_of_kind Run carries ahead = refl

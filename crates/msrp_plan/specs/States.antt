@@ -11,6 +11,7 @@ pub record JobState : Type 0 where
   pub queued : Bool
   pub done : ℕ
 
+-- how far the job is after these rows
 abbrev pub state_after : List Row → JobId → JobState
 state_after pre j = record { job = j; started = is_started pre j; queued = is_queued pre j; done = done j pre }
 

@@ -5,10 +5,12 @@ use Rattle.std.specs.Option.{option_and_then}
 use Rattle.msrp_plan.specs.declared.units.Op.{Op}
 use Rattle.msrp_plan.specs.declared.units.Op.TheVariants.{Run, Lock, Unlock}
 
+-- the unit locks the resource
 abbrev pub is_lock_of : ℕ → Op → Bool
 is_lock_of g (Lock r) = r.0 == g
 is_lock_of g _ = false
 
+-- the unit unlocks the resource
 abbrev pub is_unlock_of : ℕ → Op → Bool
 is_unlock_of g (Unlock r) = r.0 == g
 is_unlock_of g _ = false

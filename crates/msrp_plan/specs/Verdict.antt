@@ -17,6 +17,7 @@ broken plan pre r =
     if is_next_action plan pre r then (
     if is_fifo_reply pre r then None else Some A5) else Some A4) else Some A3) else Some A2) else Some A1
 
+-- the fault of the n-th row, if it violates a rule, and otherwise what comes later
 abbrev pub fault_or : Option Rule → ℕ → Option Fault → Option Fault
 fault_or None n later = later
 fault_or (Some rule) n later = Some (record { row = n; rule = rule })

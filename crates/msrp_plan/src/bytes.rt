@@ -8,7 +8,7 @@ ghost use Rattle.std.specs.Io.{ReadsAtMost};
 ghost use Rattle.std.specs.Io.KnownBytes.{Appends, ReadConsumes};
 ghost use Rattle.std.specs.IoError.{error_kind};
 ghost use Rattle.msrp_plan.specs.Limits.{most_bytes};
-ghost use Rattle.msrp_plan.specs.Bytes.{sink_failed, sink_inner, source_failed, source_ended, source_inner, source_given, source_calls, source_remaining, is_open, is_spent, AppendsPrefix, Wrote, WroteSome};
+ghost use Rattle.msrp_plan.specs.Bytes.{sink_failed, sink_inner, source_failed, source_ended, source_inner, source_given, source_calls, source_remaining, is_open, is_spent, AppendsPrefix, FailsForGood, Wrote, WroteSome};
 ghost use Rattle.msrp_plan.specs.Words.{verdict_text};
 
 use crate::faults::{Fault, WriteFault};
@@ -116,11 +116,9 @@ impl<R: Read> Read for Source<R> {
         ensures bound { ReadsAtMost result buf.new }
         ensures bytes { ReadConsumes (source_remaining R.remaining self.old) (source_remaining R.remaining self.new) result buf.new }
         ensures kind { IfErr result (λ e. error_kind e ≡ ErrorKind.Other) }
-        ensures fault { OnErr result (source_failed self.new ≡ true) }
-        ensures good { OnOk result (source_failed self.new ≡ false) }
 
         // After a failure every read fails, and after the end each gives nothing, without a call.
-        ensures failed { source_failed self.old ≡ true → IsErr result × (self.new ≡ self.old) }
+        ensures fails { FailsForGood self.old self.new result }
         ensures ended { source_ended self.old ≡ true → (result ≡ Ok 0) × (self.new ≡ self.old) }
 
         // At a limit a read fails, even if the end would come next; the reader isn't called.

@@ -65,7 +65,7 @@ pub struct Row {
 }
 
 impl Row {
-    ghost use Rattle.msrp_plan.specs.Aheads.{HasReply, without_ahead};
+    ghost use Rattle.msrp_plan.specs.Aheads.{without_ahead};
 
     /// The row, in another tick.
     #[inline(always)]
@@ -79,23 +79,6 @@ impl Row {
             job: self.job,
             res: self.res,
             ahead: self.ahead,
-        }
-    }
-
-    /// The row with another answer: its kind, and the number of jobs ahead.
-    #[inline(always)]
-    pub fn with_reply(self, kind: Kind, ahead: Option<u32>) -> Row
-        requires shape { has_shape kind self.job self.res ≡ true }
-        requires carrier { may_carry kind ahead ≡ true }
-        ensures { HasReply kind ahead self result }
-    {
-        Row {
-            tick: self.tick,
-            core: self.core,
-            kind,
-            job: self.job,
-            res: self.res,
-            ahead,
         }
     }
 

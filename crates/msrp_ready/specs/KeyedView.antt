@@ -7,6 +7,7 @@ use Rattle.msrp_plan.specs.declared.ids.JobKey.{JobKey}
 use Rattle.std.proofs.Common.{ap, arith}
 use Rattle.msrp_ready.specs.declared.keyed.KeyedJob.TheInside.{Inside}
 
+-- the key, part by part
 abbrev pub keyed_view : Inside → JobKey
 keyed_view job = record { deadline = job.number / 2 ^ 40; release = job.number % 2 ^ 40 / 2 ^ 24; task = job.number % 2 ^ 24 / 2 ^ 16; k = job.number % 2 ^ 16 }
 
@@ -14,6 +15,7 @@ keyed_view job = record { deadline = job.number / 2 ^ 40; release = job.number %
 abbrev pub keyed_inside : JobKey → Inside
 keyed_inside key = record { number = key.deadline * 2 ^ 40 + key.release * 2 ^ 24 + key.task * 2 ^ 16 + key.k }
 
+-- the key of a job has all of the number
 pub inside_again : (job : Inside) → keyed_inside (keyed_view job) ≡ job
 inside_again job = ap kept (omega arith)
   where

@@ -14,6 +14,7 @@ line_record plan t l =
     (task_at plan t).name ∷ decimal (task_at plan t).core ∷ decimal l.jobs ∷ decimal l.finished ∷ decimal l.late ∷ decimal l.worst_response ∷ decimal l.spin ∷ decimal l.worst_spin
     ∷ decimal l.blocked ∷ decimal l.worst_blocked ∷ decimal l.spin_bound ∷ decimal l.blocked_bound ∷ []
 
+-- the first n lines of a report, as text
 abbrev pub lines_text : PlanModel → List Line → ℕ → List ℕ
 lines_text plan lines n = flat_map (λ t. record_text (line_record plan t (slice_index_or lines t no_line))) (range_with_len 0 n)
 

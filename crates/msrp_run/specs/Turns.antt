@@ -30,6 +30,7 @@ pub record CoreModel : Type 0 where
   pub log : LogModel
   pub seat : SeatModel
 
+-- a core with this machine, log and seat
 abbrev pub core_with : MachineModel → LogModel → SeatModel → CoreModel
 core_with m log seat = record { machine = m; log = log; seat = seat }
 

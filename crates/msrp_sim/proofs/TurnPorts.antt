@@ -1,6 +1,6 @@
 -- A port for one turn takes one call.
 use Rattle.std.proofs.Common.{◌≡◌, ◌+◌, ◌<◌, ◌==◌, ◌&&◌, ◌∷◌, ◌++◌, ◌∙◌}
-use Rattle.msrp_plan.proofs.Common.{ℕ, Bool, true, false, cond, List, [], Option, Some, None, IfSome, is_none, refl, ap, sym, subst, arith, append-nil, eqb-true, true≢false, same_Some, IsSomeAnd, IsDueCall, IsCoreTurn, not_equal}
+use Rattle.msrp_plan.proofs.Common.{ℕ, Bool, true, false, cond, List, [], Option, Some, None, IfSome, is_none, refl, ap, sym, subst, arith, append-nil, eqb-true, true≢false, same_Some, IsSomeAnd, IsDueCall, not_equal}
 use Rattle.msrp_plan.specs.declared.ids.CoreId.{CoreId}
 use Rattle.msrp_plan.specs.declared.ids.ResId.{ResId}
 use Rattle.msrp_plan.specs.declared.rows.Kind.TheVariants.{Spin}
@@ -8,7 +8,7 @@ use Rattle.msrp_plan.specs.declared.rows.Row.{Row}
 use Rattle.msrp_plan.specs.declared.units.Call.{Call}
 use Rattle.msrp_plan.specs.declared.units.Call.TheVariants.{Poll}
 use Rattle.msrp_plan.specs.declared.units.Phase.TheVariants.{Queued}
-use Rattle.msrp_core.specs.Machine.{IsRefused, MachineModel, RepeatsOnly, StandsAfter}
+use Rattle.msrp_core.specs.Machine.{IsMachineTurn, IsRefused, MachineModel}
 use Rattle.msrp_core.specs.Ports.{Adds, claim_in}
 use Rattle.msrp_core.specs.declared.port.PortCall.{PortCall}
 use Rattle.msrp_sim.specs.Serving.{IsTold, is_served}
@@ -58,21 +58,20 @@ module _ (q : Queues) (x : MachineModel) (g : ResId) where
   IsPollOf r = (r.kind ≡ Spin) × (r.res ≡ Some g)
 
   -- the row that polls in vain, and its call
-  pub poll_made : (y : MachineModel) (o : Option Row) → IsSomeAnd o IsPollOf → false ≡ is_served q x.core g.0 → IfSome o (IsRefused x) → y.plan ≡ x.plan → y.core ≡ x.core → y.phase ≡ x.phase → IfSome o (λ _. y.tick ≡ x.tick + 1)
-      → IfSome o (λ r. (log : List Row) → StandsAfter x log → IsCoreTurn x.plan x.core log r) → IfSome o (λ r. (log : List Row) → StandsAfter x log → StandsAfter y (log ++ r ∷ [])) → IfSome o (RepeatsOnly y) → IfSome o (HasRepeated q x y)
-  poll_made y None is refused ref plan core phase tick row stands again = tt
-  poll_made y (Some r) is refused ref plan core phase tick row stands again =
+  pub poll_made : (y : MachineModel) (o : Option Row) → IsSomeAnd o IsPollOf → false ≡ is_served q x.core g.0 → IfSome o (IsRefused x) → y.phase ≡ x.phase → IfSome o (IsMachineTurn x y) → IfSome o (HasRepeated q x y)
+  poll_made y None is refused ref phase turn = tt
+  poll_made y (Some r) is refused ref phase turn =
       let same : ref.res ≡ g = same_Some ref.res g (sym ref.resource ∙ is.1) in
       let told : false ≡ is_served q r.core.0 ref.res.0 = refused ∙ sym (ap (λ c. is_served q c ref.res.0) ref.core ∙ ap (λ (h : ResId). is_served q x.core h.0) same) in
       record {
         call = call_with r.core ref.res (Poll false);
         turned = record {
-          plan = plan;
-          core = core;
-          tick = tick;
-          row = row;
-          stands = stands;
-          again = again;
+          plan = turn.plan;
+          core = turn.core;
+          tick = turn.tick;
+          row = turn.row;
+          stands = turn.stands;
+          again = turn.again;
           call = λ res e global.
               let own : ref.res ≡ res = same_Some ref.res res (sym ref.resource ∙ e) in
               record {

@@ -13,6 +13,7 @@ use Rattle.msrp_sim.specs.declared.tickets.Tickets.{Tickets}
 abbrev pub tickets_in : List Tickets → ℕ → Tickets
 tickets_in queues g = slice_index_or queues g (record { next = 0; serving = 0 })
 
+-- the tickets of a resource
 abbrev pub queue_of : Queues → ℕ → Tickets
 queue_of q g = tickets_in q.queues g
 

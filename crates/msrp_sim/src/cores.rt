@@ -1,5 +1,5 @@
 //! All cores of a plan over first-in-first-out queues: one turn of any core, in any order.
-ghost use Rattle.std.specs.Prelude.{◌≡◌, ◌<◌};
+ghost use Rattle.std.specs.Prelude.{◌≡◌, ◌≤◌, ◌<◌};
 ghost use Rattle.msrp_plan.specs.Common.{[], ℕ, List, IfOk, IfNone, IfSome, None, Some, length, slice_get, ForSome, most_cores, most_resources, most_rows, log_of, IsPlan};
 ghost use Rattle.std.specs.Option.{option_map};
 ghost use Rattle.msrp_plan.specs.declared.rows.Row.{Row as TraceRow};
@@ -95,7 +95,8 @@ impl<'a> Cores<'a> {
     /// The number of turns that the core has had.
     pub fn tick(&self, core: CoreId) -> u32
         requires { core.0 < self.now.plan.cores }
-        ensures { option_map (λ x. x.tick) (slice_get self.now.machines core.0) ≡ Some result }
+        ensures now { option_map (λ x. x.tick) (slice_get self.now.machines core.0) ≡ Some result }
+        ensures most { result ≤ self.now.plan.ticks }
     {
         self.machines[core.0 as usize].tick()
     }

@@ -17,6 +17,7 @@ pub record StackModel : Type 0 where
   pub core : ℕ
   pub started : List StartedJob
 
+-- the job holds the resource
 abbrev pub holds : ℕ → StartedJob → Bool
 holds g s = list_any (nat_eq g) s.held
 
@@ -56,6 +57,7 @@ abbrev pub HasRoom : List StartedJob → ℕ → ℕ → Type 0
 HasRoom [] most g = ⊥
 HasRoom (s ∷ below) most g = (length s.held < most) × (holds g s ≡ false)
 
+-- the newest job holds one more resource
 abbrev pub with_held : List StartedJob → ℕ → List StartedJob
 with_held [] g = []
 with_held (s ∷ below) g = record s { held = g ∷ s.held } ∷ below
@@ -79,6 +81,7 @@ abbrev pub IsDone : List StartedJob → Type 0
 IsDone [] = ⊥
 IsDone (s ∷ below) = s.held ≡ []
 
+-- the stack after its newest job has finished
 abbrev pub without_newest : List StartedJob → List StartedJob
 without_newest [] = []
 without_newest (s ∷ below) = below

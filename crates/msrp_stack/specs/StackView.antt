@@ -10,6 +10,7 @@ use Rattle.msrp_stack.specs.declared.stack.CeilingStack.TheInside.{Inside}
 abbrev pub started_view : Started → StartedJob
 started_view s = record { job = s.job; held = map (λ h. h.res.0) (reverse s.held.items) }
 
+-- the started jobs, which are stored with the newest last
 abbrev pub started_of : List Started → List StartedJob
 started_of items = map started_view (reverse items)
 

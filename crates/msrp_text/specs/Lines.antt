@@ -72,6 +72,7 @@ abbrev pub empty_at : {R : Type 0} → Option ℕ → Way R → Option ℕ
 empty_at first (way.Lines lines) = lines.passed
 empty_at first (way.Csv records) = first
 
+-- the number of empty lines before the record that a reader read last, if known
 abbrev pub empty_before : {R : Type 0} → RecordReader R → Option ℕ
 empty_before r = empty_at r.first r.way
 

@@ -15,10 +15,12 @@ abbrev pub next_fields : List (List ℕ) → List ℕ
 next_fields [] = codes "\n"
 next_fields (field ∷ fields) = codes "," ++ field ++ next_fields fields
 
+-- the text of a record
 abbrev pub record_text : List (List ℕ) → List ℕ
 record_text [] = codes "\n"
 record_text (field ∷ fields) = field ++ next_fields fields
 
+-- the text of some records
 abbrev pub records_text : List (List (List ℕ)) → List ℕ
 records_text records = flat_map record_text records
 
@@ -37,6 +39,7 @@ steps_of (unit.Run ∷ us) = joined (steps_of us)
 steps_of (unit.Lock g ∷ us) = Lock g ∷ steps_of us
 steps_of (unit.Unlock g ∷ us) = Unlock g ∷ steps_of us
 
+-- the record of a step
 abbrev pub step_record : PlanModel → Step → List (List ℕ)
 step_record plan (Run n) = codes "op" ∷ codes "run" ∷ decimal n ∷ []
 step_record plan (Lock g) = codes "op" ∷ codes "lock" ∷ slice_index_or plan.resources g.0 [] ∷ []
@@ -55,6 +58,7 @@ declaration task (Listed ticks) = codes "listed" ∷ task.name ∷ decimal task.
 abbrev pub times_records : TaskModel → List (List (List ℕ))
 times_records task = declaration task task.times ∷ map release_record (listed_ticks task.times)
 
+-- all records of a task
 abbrev pub task_records : PlanModel → TaskModel → List (List (List ℕ))
 task_records plan task = times_records task ++ map (step_record plan) (steps_of task.units)
 
@@ -68,6 +72,7 @@ version_text V2 = codes "2"
 abbrev pub version_of : PlanModel → TextVersion
 version_of plan = if list_any (λ task. is_listed task.times) plan.tasks then V2 else V1
 
+-- the record of the version
 abbrev pub version_record : TextVersion → List (List ℕ)
 version_record version = codes "msrp" ∷ version_text version ∷ []
 
@@ -79,6 +84,7 @@ head_records plan =
     ∷ (codes "ticks" ∷ decimal plan.ticks ∷ [])
     ∷ []
 
+-- the record of a resource
 abbrev pub resource_record : List ℕ → List (List ℕ)
 resource_record name = codes "resource" ∷ name ∷ []
 

@@ -70,6 +70,7 @@ plan_told records = fold with_record (empty_plan (number_told (record_at records
 abbrev pub is_version : List (List ℕ) → Bool
 is_version fields = (length fields == 2) && has_word fields 0 (codes "msrp") && (has_word fields 1 (codes "1") || has_word fields 1 (codes "2"))
 
+-- the version in a first record
 abbrev pub version_told : List (List ℕ) → TextVersion
 version_told fields = if has_word fields 1 (codes "2") then V2 else V1
 
@@ -118,9 +119,11 @@ task_record_fault plan fields =
 abbrev pub is_lock_word : List (List ℕ) → Bool
 is_lock_word fields = has_word fields 1 (codes "lock") || has_word fields 1 (codes "unlock")
 
+-- the second field is the word of a step
 abbrev pub is_op_word : List (List ℕ) → Bool
 is_op_word fields = has_word fields 1 (codes "run") || is_lock_word fields
 
+-- the first fault of a record of a step, in the order of the checks
 abbrev pub op_record_fault : PlanModel → List (List ℕ) → Option PlanFault
 op_record_fault plan fields =
     fault_if (length plan.tasks == 0) OutOfPlace (

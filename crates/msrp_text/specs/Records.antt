@@ -32,6 +32,7 @@ records_ahead remaining lines = option_map (records_of lines.begun) (unread rema
 abbrev pub csv_under : {R : Type 0} → CsvRecords R → R
 csv_under r = reader_source r.rows
 
+-- the records that are left
 abbrev pub csv_left : {R : Type 0} → (R → Option (List ℕ)) → CsvRecords R → Option (List (List (List ℕ)))
 csv_left remaining r = option_map (records_at (reader_state r.rows)) (source_of remaining r.rows)
 
@@ -40,18 +41,22 @@ abbrev pub under : {R : Type 0} → Way R → R
 under (way.Lines lines) = lines.source
 under (way.Csv records) = (csv_under records).source
 
+-- how the reading has stopped, if it has
 abbrev pub stop_at : {R : Type 0} → Way R → Option Stopped
 stop_at (way.Lines lines) = None
 stop_at (way.Csv records) = records.stopped
 
+-- the records are read by csv
 abbrev pub is_csv : {R : Type 0} → Way R → Bool
 is_csv (way.Lines lines) = false
 is_csv (way.Csv records) = true
 
+-- the bytes that are read and not taken yet
 abbrev pub ahead_at : {R : Type 0} → Way R → List ℕ
 ahead_at (way.Lines lines) = lines_ahead lines
 ahead_at (way.Csv records) = []
 
+-- the records that are left, either way
 abbrev pub left_at : {R : Type 0} → (R → Option (List ℕ)) → Way R → Option (List (List (List ℕ)))
 left_at remaining (way.Lines lines) = records_ahead remaining lines
 left_at remaining (way.Csv records) = csv_left (unread remaining) records

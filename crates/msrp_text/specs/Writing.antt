@@ -7,6 +7,7 @@ use Rattle.msrp_plan.specs.declared.units.Op.TheVariants as unit
 use Rattle.msrp_plan.specs.declared.units.Step.TheVariants.{Run, Lock, Unlock}
 use Rattle.msrp_text.specs.PlanText.{records_text, step_record}
 
+-- the text of some steps
 abbrev pub steps_text : PlanModel → List Step → List ℕ
 steps_text plan steps = records_text (map (step_record plan) steps)
 

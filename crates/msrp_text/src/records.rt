@@ -129,7 +129,8 @@ impl<R: Read> RecordReader<R> {
         let Way::Lines(lines) = &self.way else {
             return self.meets_apart(front, line);
         };
-        if begins_with_long(&lines.ahead()[front.len()..], line) && ends_line(line) {
+        let next = &lines.ahead()[front.len()..];
+        if ends_line(line) && begins_with_long(next, line) {
             self.take_line(front.len() + line.len());
             return true;
         }

@@ -11,10 +11,12 @@ use Rattle.msrp_trace.specs.TraceText.{is_named}
 abbrev pub is_short : ℕ → Bool
 is_short n = nat_lt n 1000000000
 
+-- the job's number, if there is one, has at most nine digits
 abbrev pub has_short_job : Option JobId → Bool
 has_short_job None = true
 has_short_job (Some j) = is_short j.k
 
+-- the ahead, if there is one, has at most nine digits
 abbrev pub has_short_ahead : Option ℕ → Bool
 has_short_ahead None = true
 has_short_ahead (Some n) = is_short n

@@ -58,6 +58,7 @@ CanMeet t r = (line : List ℕ) × IsLineOf t r line × BeginsWith line (bytes_a
 abbrev pub IsOfTrace : {R : Type 0} → TraceReader R → TraceReader R → Type 0
 IsOfTrace old new = (new.version ≡ old.version) × (new.plan.now ≡ old.plan.now)
 
+-- the reader has failed
 abbrev pub is_failed : ReaderState → Bool
 is_failed Failed = true
 is_failed _ = false
@@ -79,6 +80,7 @@ abbrev pub OpensBy : {R : Type 0} → (R → Option (List ℕ)) → Option TextV
 OpensBy remaining None told result = result ≡ Err (At Head 1)
 OpensBy remaining (Some version) told result = IsOkAnd result (λ reader. told_left remaining reader ≡ Some told)
 
+-- what a reader of these records says when it opens, unless memory or reading fails
 abbrev pub Opens : {R : Type 0} → (R → Option (List ℕ)) → PlanModel → List (List (List ℕ)) → Result (TraceReader R) TraceError → Type 0
 Opens remaining plan records result = HoldsUnlessFailed result (OpensBy remaining (version_of plan records) (rows_of plan records) result)
 
@@ -94,6 +96,7 @@ GivesFirstOr (r ∷ rows) refusal result after = GivesFirst (r ∷ rows) refusal
 GivesFirstOr [] None result after = result ≡ Ok None
 GivesFirstOr [] (Some refusal) result after = result ≡ Err refusal
 
+-- what the next call gives, unless memory or reading fails
 abbrev pub GivesNext : Told → Result (Option Row) TraceError → Option Told → Type 0
 GivesNext told result after = HoldsUnlessFailed result (GivesFirst told.rows told.refusal result after)
 
@@ -137,6 +140,13 @@ HasReadIn remaining text t = HasRead (λ s. source_remaining remaining s.now) te
 -- the last of them is the record of that number
 abbrev pub HasReadTo : {R : Type 0} → (R → Option (List ℕ)) → List ℕ → ℕ → TraceReader R → Type 0
 HasReadTo remaining text number t = HasReadIn remaining text t × (t.number ≡ number)
+
+-- the reader took nothing: it is at the tick, with the same rows, records and lines left
+pub record TakesNothing {R : Type 0} (remaining : R → Option (List ℕ)) (n : ℕ) (old new : TraceReader R) : Type 0 where
+  pub here : IsAtTick n new
+  pub kept : (told : Told) → told_left remaining old ≡ Some told → told_left remaining new ≡ Some told
+  pub still : (records : List (List (List ℕ))) → StandsIn remaining records old → StandsIn remaining records new
+  pub lines : (text : List ℕ) → HasReadIn remaining text old → HasReadIn remaining text new
 
 -- after a row the reader has read it, and after a refusal the refused record
 abbrev pub HasReadBehind : {R : Type 0} → (R → Option (List ℕ)) → List ℕ → Result (Option Row) TraceError → TraceReader R → Type 0

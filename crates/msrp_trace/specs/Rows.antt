@@ -47,6 +47,7 @@ kinds = kind.Idle ∷ kind.Run ∷ kind.Lock ∷ kind.Unlock ∷ kind.Take ∷ k
 unfoldable pub kind_named : List ℕ → Option Kind
 kind_named word = find (λ k. bytes_eq word (kind_text k)) kinds
 
+-- the kind in the third field
 abbrev pub kind_told : List (List ℕ) → Option Kind
 kind_told fields = option_and_then kind_named (field_at fields 2)
 
@@ -65,6 +66,7 @@ task_named plan name = option_map (λ t. record { 0 = t }) (name_position (map (
 abbrev pub res_named : PlanModel → List ℕ → Option ResId
 res_named plan name = option_map (λ g. record { 0 = g }) (name_position plan.resources name)
 
+-- the task, the job's number, the resource and the ahead of a record, each none at a dash
 abbrev pub task_told : PlanModel → List (List ℕ) → Option (Option TaskId)
 task_told plan fields = told_at (task_named plan) fields 3
 
@@ -96,12 +98,15 @@ has_its_ahead V1 k ahead = true
 has_its_ahead V2 kind.Queue ahead = ahead
 has_its_ahead V2 _ ahead = not ahead
 
+-- the record has the fields that its kind needs, and no others
 abbrev pub is_shaped : TextVersion → List (List ℕ) → Kind → Bool
 is_shaped version fields k = has_parts k (not (is_dash fields 3)) (not (is_dash fields 4)) (not (is_dash fields 5)) && has_its_ahead version k (not (is_dash fields 6))
 
+-- the record names a task or a resource that the plan lacks
 abbrev pub lacks_name : PlanModel → List (List ℕ) → Bool
 lacks_name plan fields = is_none (task_told plan fields) || is_none (res_told plan fields)
 
+-- the fault if the test holds, and otherwise what the later checks find
 abbrev pub fault_if : Bool → TraceFault → Option TraceFault → Option TraceFault
 fault_if test fault rest = if test then Some fault else rest
 
@@ -127,6 +132,7 @@ abbrev pub row_if : (tick core : ℕ) (k : Kind) (job : Option JobId) (res : Opt
 row_if tick core k job res ahead true true s c = Some (record { tick = tick; core = record { 0 = core }; kind = k; job = job; res = res; ahead = ahead; shape = s; carrier = c })
 row_if tick core k job res ahead _ _ s c = None
 
+-- the row of these parts, if they are one
 abbrev pub row_with : ℕ → ℕ → Kind → Option JobId → Option ResId → Option ℕ → Option Row
 row_with tick core k job res ahead = row_if tick core k job res ahead (has_shape k job res) (may_carry k ahead) refl refl
 

@@ -16,6 +16,7 @@ pub record TextsModel : Type 0 where
 abbrev pub text_of_core : TextsModel → ℕ → List ℕ
 text_of_core texts core = slice_index_or texts.texts (core % 8) []
 
+-- the stored records, one for each core
 abbrev pub texts_of : List CoreText → List (List ℕ)
 texts_of lines = map (λ kept. kept.line) lines
 

@@ -43,6 +43,7 @@ ahead_fields V2 ahead = ahead_text ahead ∷ []
 abbrev pub row_fields : TextVersion → PlanModel → Row → List (List ℕ)
 row_fields version plan r = decimal r.tick ∷ decimal r.core.0 ∷ kind_text r.kind ∷ task_text plan r.job ∷ job_text r.job ∷ res_text plan r.res ∷ ahead_fields version r.ahead
 
+-- the text of a row
 abbrev pub row_text : TextVersion → PlanModel → Row → List ℕ
 row_text version plan r = record_text (row_fields version plan r)
 
@@ -50,6 +51,7 @@ row_text version plan r = record_text (row_fields version plan r)
 abbrev pub head_fields : TextVersion → PlanModel → List (List ℕ)
 head_fields version plan = trace_word ∷ version_text version ∷ decimal plan.cores ∷ decimal plan.ticks ∷ []
 
+-- the text of the first record
 abbrev pub head_text : TextVersion → PlanModel → List ℕ
 head_text version plan = record_text (head_fields version plan)
 

@@ -138,7 +138,7 @@ fn numbered_row(
 }
 
 impl<'a, R: Read> TraceReader<'a, R> {
-    ghost use Rattle.msrp_trace.specs.Readers.{BeginsAt, CanMeet, GivesFirstOr, GivesNext, HasReadBehind, HasReadIn, HasReadTo, HoldsUnlessFailed, IsAtTick, IsOfTrace, IsRecordOf, IsTextOf, Opens, StandsBehind, StandsIn, error_of, has_failed, record_read, source_of, told_left};
+    ghost use Rattle.msrp_trace.specs.Readers.{BeginsAt, CanMeet, GivesFirstOr, GivesNext, HasReadBehind, HasReadIn, HasReadTo, HoldsUnlessFailed, IsAtTick, IsOfTrace, IsRecordOf, IsTextOf, Opens, StandsBehind, StandsIn, TakesNothing, error_of, has_failed, record_read, source_of, told_left};
 
     /// The rows of the rest of a source, for a trace of the plan. Refuses a first record by R1.
     #[inline(always)]
@@ -266,15 +266,12 @@ impl<'a, R: Read> TraceReader<'a, R> {
         requires { IsAtTick tick self.old }
         ensures some { result ≡ true → ¬ (text_of_core texts.now core.0 ≡ []) }
         ensures taken { result ≡ true → (row : Row) (told : Told) → IsTextOf self.old texts.now tick core.0 row → told_left R.remaining self.old ≡ Some told → GivesNext told (Ok (Some row)) (told_left R.remaining self.new) }
-        ensures kept { result ≡ false → (told : Told) → told_left R.remaining self.old ≡ Some told → told_left R.remaining self.new ≡ Some told }
-        ensures here { result ≡ false → IsAtTick tick self.new }
+        ensures nothing { result ≡ false → TakesNothing R.remaining tick self.old self.new }
         ensures same { has_failed self.new ≡ has_failed self.old }
         ensures trace { IsOfTrace self.old self.new }
         ensures finds { (row : Row) → IsTextOf self.old texts.now tick core.0 row → CanMeet self.old row → result ≡ true }
         ensures stands { (row : Row) (records : List (List (List ℕ))) → IsTextOf self.old texts.now tick core.0 row → StandsIn R.remaining records self.old → StandsIn R.remaining records self.new }
-        ensures still { result ≡ false → (records : List (List (List ℕ))) → StandsIn R.remaining records self.old → StandsIn R.remaining records self.new }
         ensures lines { (row : Row) (text : List ℕ) → IsTextOf self.old texts.now tick core.0 row → HasReadIn R.remaining text self.old → HasReadIn R.remaining text self.new }
-        ensures lines_still { result ≡ false → (text : List ℕ) → HasReadIn R.remaining text self.old → HasReadIn R.remaining text self.new }
     {
         let Some(after) = self.number.checked_add(1) else {
             return false;

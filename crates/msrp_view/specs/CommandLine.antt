@@ -48,10 +48,9 @@ tick_of (Some word) = if nat_lt 0 (length word) && (list_all is_ascii_digit word
 -- the style and the ticks of a picture, if none of them is refused
 abbrev pub asked_by : Result Style CliFault → Result (Option ℕ) CliFault → Result (Option ℕ) CliFault → Result Asked CliFault
 asked_by (Ok style) (Ok from) (Ok to) = Ok (record { style = style; from = from; to = to })
-asked_by (Ok style) (Ok from) (Err fault) = Err fault
-asked_by (Ok style) (Err fault) to = Err fault
-asked_by (Err fault) from to = Err fault
+asked_by _ _ _ = Err Usage
 
+-- the same, of the arguments that were found
 abbrev pub asked_of : List Row → Result Asked CliFault
 asked_of rows = asked_by (style_of (is_given (codes "text") rows) (is_given (codes "svg") rows)) (tick_of (first_of (codes "from") rows)) (tick_of (first_of (codes "to") rows))
 
@@ -67,9 +66,9 @@ view_by false false true false false false false asked = Ok (Export format.Gtkw)
 view_by false false false true false false false asked = Ok (Export format.Perfetto)
 view_by false false false false true false tick asked = Ok Page
 view_by false false false false false picture false (Ok asked) = Ok (Picture asked)
-view_by false false false false false picture false (Err fault) = Err fault
 view_by _ _ _ _ _ _ _ asked = Err Usage
 
+-- what the arguments ask for
 abbrev pub view_of : List Row → Result View CliFault
 view_of rows =
     view_by (is_given (codes "why") rows) (is_given (codes "vcd") rows) (is_given (codes "gtkw") rows) (is_given (codes "perfetto") rows) (is_given (codes "html") rows) (says_picture rows)

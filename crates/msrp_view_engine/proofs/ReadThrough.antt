@@ -1,7 +1,8 @@
 -- A text that is read to its end: its rows, or its records.
 use Rattle.std.proofs.Common.{◌≡◌, ◌∙◌, ◌+◌, ◌≤◌, ◌∷◌, ◌++◌}
 use Rattle.msrp_plan.proofs.Common.{[], ℕ, List, Option, None, Some, Result, Ok, Err, length, drop, take, ap, arith, sym, inl, inr, length-drop, slice_index_or, cases_lt, drop_more, take_all, take_more}
-use Rattle.msrp_view_engine.proofs.Common.{Answers, CliFault, IsError, IsReadTo, OrUnread, Row, Told, TraceError, read-whole, rows_in, rows_or, rows_read, trace_fault_of}
+use Rattle.msrp_view_engine.proofs.Common.{Answers, CliFault, IsError, IsReadTo, OrUnread, Row, Told, TraceError, read-whole, rows_in, rows_read, trace_fault_of}
+use Rattle.std.specs.Option.{option_map_or}
 use Rattle.msrp_view_engine.specs.declared.view.Gathered.{Gathered}
 
 -- at the end all rows were read
@@ -9,7 +10,7 @@ pub all-read : (told : Told) (rows : List Row) (left after : Option Told) (resul
     → IsReadTo told rows left → Answers left result after → result ≡ Ok None → Ok rows ≡ rows_read told
 all-read told rows left after result is next e =
     let whole = read-whole told rows left after result is next e in
-    sym (ap (rows_or told.rows) whole.1 ∙ ap (λ xs. Ok xs) whole.0)
+    sym (ap (λ o. option_map_or (λ error. Err (trace_fault_of error)) o (Ok told.rows)) whole.1 ∙ ap (λ xs. Ok xs) whole.0)
 
 -- an error of the reader is a read that failed, want of memory, or the refusal
 pub error-read : (told : Told) (error : TraceError) (answer : Result Gathered CliFault) (due : Type 0) → IsError error due → (due → told.refusal ≡ Some error) → answer ≡ Err (trace_fault_of error)
@@ -18,7 +19,7 @@ error-read told error answer due h refused gives = elim h [
   | inl same ↦ inl (gives ∙ ap (λ x. Err (trace_fault_of x)) same)
   | inr k ↦ elim k [
     | inl same ↦ inr (inl (gives ∙ ap (λ x. Err (trace_fault_of x)) same))
-    | inr last ↦ inr (inr (ap rows_in gives ∙ sym (ap (rows_or told.rows) (refused last))))
+    | inr last ↦ inr (inr (ap rows_in gives ∙ sym (ap (λ o. option_map_or (λ error. Err (trace_fault_of error)) o (Ok told.rows)) (refused last))))
   ]
 ]
 

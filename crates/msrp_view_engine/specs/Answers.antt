@@ -1,7 +1,8 @@
 -- What is found in texts, and what the engines answer.
 use Rattle.std.specs.Prelude.{◌≡◌, ◌⊎◌, ◌+◌, ◌++◌}
-use Rattle.msrp_plan.specs.Common.{ℕ, Bool, false, true, List, Option, Some, None, Ok, Err, IfErr, IfOk, IfSome, IsOkAnd, ⊤, Result, PlanModel, Wrote, verdict, verdict_text}
-use Rattle.msrp_view_engine.specs.Common.{AreNoted, BeginsIn, CliFault, Fault, IsCauseIn, Made, Row, Sink, TextError, Told, TraceError, Window, answer_of, answered, fault_of, finding, finding_of, found_in, is_plan_code, is_trace_code, missing, rows_of, trace_fault_of, verdict_status, is_view_fault, window_of}
+use Rattle.msrp_plan.specs.Common.{ℕ, Bool, false, true, List, Option, Some, Ok, Err, IfErr, IfOk, IfSome, IsOkAnd, ⊤, Result, PlanModel, Wrote, verdict, verdict_text}
+use Rattle.std.specs.Option.{option_map_or}
+use Rattle.msrp_view_engine.specs.Common.{AreNoted, BeginsIn, CliFault, Fault, IsCauseIn, Made, Row, Sink, TextError, Told, TraceError, answer_of, answered, fault_of, finding, finding_of, found_in, is_plan_code, is_trace_code, missing, rows_of, trace_fault_of, verdict_status, is_view_fault, window_of}
 use Rattle.msrp_trace.specs.declared.faults.TraceError.TheVariants as trace
 use Rattle.msrp_faults.specs.declared.faults.CliFault.TheVariants as cli
 use Rattle.msrp_view_engine.specs.declared.view.Drawing.{Drawing}
@@ -22,13 +23,10 @@ Refuses fault old new result = (result ≡ Err fault) × (new ≡ old)
 
 -- ---- pictures, and pages for a browser
 -- all rows of the trace, or the refusal after them
-abbrev pub rows_or : List Row → Option TraceError → Result (List Row) CliFault
-rows_or rows None = Ok rows
-rows_or rows (Some error) = Err (trace_fault_of error)
-
 abbrev pub rows_read : Told → Result (List Row) CliFault
-rows_read told = rows_or told.rows told.refusal
+rows_read told = option_map_or (λ error. Err (trace_fault_of error)) told.refusal (Ok told.rows)
 
+-- the rows that were gathered, or the fault
 abbrev pub rows_in : Result Gathered CliFault → Result (List Row) CliFault
 rows_in (Ok gathered) = Ok gathered.trace.rows.items
 rows_in (Err fault) = Err fault
@@ -38,14 +36,10 @@ abbrev pub verdict_on : PlanModel → Result (List Row) CliFault → Result (Res
 verdict_on plan (Ok rows) = Ok (answer_of (verdict plan rows))
 verdict_on plan (Err fault) = Err fault
 
--- it is wrong usage if the plan doesn't have these ticks
-abbrev pub found_within : PlanModel → Told → Option Window → Result (Result ⊤ Fault) CliFault
-found_within plan told (Some window) = verdict_on plan (rows_read told)
-found_within plan told None = Err cli.Usage
-
--- what comes with a drawing: a picture has a window, and a page has all ticks
+-- what comes with a drawing: a page has all ticks, and a picture has a window; it is wrong usage
+-- if the plan doesn't have these ticks
 abbrev pub found_drawn : PlanModel → Told → Drawing → Result (Result ⊤ Fault) CliFault
-found_drawn plan told (Picture asked) = found_within plan told (window_of plan asked)
+found_drawn plan told (Picture asked) = option_map_or (λ window. verdict_on plan (rows_read told)) (window_of plan asked) (Err cli.Usage)
 found_drawn plan told (Page length) = verdict_on plan (rows_read told)
 
 -- what is found in the text of an accepted or a refused plan, and in a trace's records

@@ -10,7 +10,6 @@ pub use Rattle.msrp_engine.specs.declared.made.Made.{Made}
 pub use Rattle.msrp_faults.specs.Outcomes.{answered, fault_of, is_audit_fault, is_plan_code, is_plan_fault, is_sim_fault, is_trace_code, is_trace_fault, is_view_fault, trace_fault_of}
 pub use Rattle.msrp_faults.specs.declared.faults.CliFault.{CliFault}
 pub use Rattle.msrp_picture.specs.Rows.{window_of}
-pub use Rattle.msrp_picture.specs.declared.windows.Window.{Window}
 pub use Rattle.msrp_plan.specs.declared.bytes.Sink.{Sink}
 pub use Rattle.msrp_plan.specs.declared.faults.Fault.{Fault}
 pub use Rattle.msrp_plan.specs.Verdict.{missing}

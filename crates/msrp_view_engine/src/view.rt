@@ -1,8 +1,8 @@
 //! A trace's text as a picture, and as a page for a browser.
 ghost use Rattle.std.specs.Prelude.{◌≡◌};
 ghost use Rattle.msrp_plan.specs.Common.{[], true, Some, Err, IfErr, WroteSome};
-ghost use Rattle.msrp_view_engine.specs.Common.{Answered, OfText, OfTexts, OrUnread, ReadsBoth, Told as TraceTold, found_in, is_trace_fault, rows_of, told_left, window_of};
-ghost use Rattle.msrp_view_engine.specs.Answers.{IsDrawingOf, WritesDrawing, drawing_found, found_drawn, found_within, is_drawing_fault, rows_in, rows_read, verdict_on};
+ghost use Rattle.msrp_view_engine.specs.Common.{Answered, OfText, OfTexts, OrUnread, ReadsBoth, Told as TraceTold, found_in, is_trace_fault, rows_of, told_left};
+ghost use Rattle.msrp_view_engine.specs.Answers.{IsDrawingOf, WritesDrawing, drawing_found, found_drawn, is_drawing_fault, rows_in, rows_read, verdict_on};
 
 use crate::why::explain_all;
 use crate::why_plan::bytes_of;
@@ -82,7 +82,7 @@ fn gather<T: Read>(alloc: Global, plan: &Plan, trace: &mut Source<T>) -> Result<
 }
 
 fn picture_of<T: Read>(alloc: Global, plan: &Plan, trace: &mut Source<T>, asked: Asked) -> Drawn
-    ensures found { OfText T.remaining trace.old result (λ records. found_in result ≡ found_within plan.now (rows_of plan.now records) (window_of plan.now asked)) }
+    ensures found { OfText T.remaining trace.old result (λ records. found_in result ≡ found_drawn plan.now (rows_of plan.now records) (Drawing.Picture asked)) }
     ensures faults { IfErr result (λ fault. is_drawing_fault fault (Drawing.Picture asked) ≡ true) }
     ensures unwritten { ¬ (result ≡ Err CliFault.Write) }
 {

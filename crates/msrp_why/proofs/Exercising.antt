@@ -41,47 +41,37 @@ count_few p pre (x ∷ xs) = by_test (p pre x) (count_few p (pre ++ x ∷ []) xs
     by_test true h = omega (arith, h)
     by_test false h = omega (arith, h)
 
--- a count with one row more
+-- a count with one row more, and one that is stored
+counted : (p : List Row → Row → Bool) (rows : List Row) (r : Row) (b : Bool) (n : ℕ) → p rows r ≡ b → n ≡ count_after p [] rows + cond b 1 0 → n ≡ count_after p [] (rows ++ r ∷ [])
+counted p rows r b n is step = step ∙ sym (count_after_push p [] rows r ∙ ap (λ c. count_after p [] rows + cond c 1 0) is)
+
 pub one_more_counted : (p : List Row → Row → Bool) (rows : List Row) (r : Row) (b : Bool) (old new : ℕ) → length rows < 160000 → p rows r ≡ b → new ≡ one_if old b → old ≡ count_after p [] rows → new ≡ count_after p [] (rows ++ r ∷ [])
-one_more_counted p rows r b old new few is step was = step ∙ (by_test b ∙ sym (count_after_push p [] rows r ∙ ap (λ c. count_after p [] rows + cond c 1 0) is))
+one_more_counted p rows r b old new few is step was = counted p rows r b new is (step ∙ by_test b)
   where
     by_test : (b : Bool) → one_if old b ≡ count_after p [] rows + cond b 1 0
     by_test true = let n = count_few p [] rows in omega (arith, n, was, few)
     by_test false = let n = count_few p [] rows in omega (arith, n, was, few)
-
--- and with one that doesn't count
-pub none_more_counted : (p : List Row → Row → Bool) (rows : List Row) (r : Row) (n : ℕ) → p rows r ≡ false → n ≡ count_after p [] rows → n ≡ count_after p [] (rows ++ r ∷ [])
-none_more_counted p rows r n is was =
-    let push : count_after p [] (rows ++ r ∷ []) ≡ count_after p [] rows + cond (p rows r) 1 0 = count_after_push p [] rows r in
-    let none : count_after p [] rows + cond (p rows r) 1 0 ≡ count_after p [] rows + 0 = ap (λ c. count_after p [] rows + cond c 1 0) is in
-    omega (arith, was, push, none)
 
 -- the greatest, with one row more
 most_push : (f : List Row → Row → ℕ) (most : ℕ) (pre rows : List Row) (r : Row) → most_after f most pre (rows ++ r ∷ []) ≡ max (most_after f most pre rows) (f (pre ++ rows) r)
 most_push f most pre [] r = ap (λ ys. max most (f ys r)) (sym (append-nil pre))
 most_push f most pre (x ∷ rows) r = most_push f (max most (f pre x)) (pre ++ x ∷ []) rows r ∙ ap (λ ys. max (most_after f (max most (f pre x)) (pre ++ x ∷ []) rows) (f ys r)) (append_assoc pre (x ∷ []) rows)
 
-pub most_with : (g : ℕ) (rows : List Row) (r : Row) (old new : ℕ) → is_on g r.res ≡ true → new ≡ max old (length (queue_rows g (rows ++ r ∷ []))) → old ≡ most_after (queued_with g) 0 [] rows → new ≡ most_after (queued_with g) 0 [] (rows ++ r ∷ [])
-most_with g rows r old new on step was =
-    step ∙ (ap (λ m. max m (length (queue_rows g (rows ++ r ∷ [])))) was
-    ∙ (ap (λ b. max (most_after (queued_with g) 0 [] rows) (cond b (length (queue_rows g (rows ++ r ∷ []))) 0)) (sym on)
-    ∙ sym (most_push (queued_with g) 0 [] rows r)))
-
-pub most_without : (g : ℕ) (rows : List Row) (r : Row) (n : ℕ) → is_on g r.res ≡ false → n ≡ most_after (queued_with g) 0 [] rows → n ≡ most_after (queued_with g) 0 [] (rows ++ r ∷ [])
-most_without g rows r n off was =
-    was ∙ (sym (max-zero (most_after (queued_with g) 0 [] rows))
-    ∙ (ap (λ b. max (most_after (queued_with g) 0 [] rows) (cond b (length (queue_rows g (rows ++ r ∷ []))) 0)) (sym off)
+pub most_with : (g : ℕ) (rows : List Row) (r : Row) (b : Bool) (old new : ℕ) → is_on g r.res ≡ b → new ≡ max old (cond b (length (queue_rows g (rows ++ r ∷ []))) 0) → old ≡ most_after (queued_with g) 0 [] rows → new ≡ most_after (queued_with g) 0 [] (rows ++ r ∷ [])
+most_with g rows r b old new on step was =
+    step ∙ (ap (λ m. max m (cond b (length (queue_rows g (rows ++ r ∷ []))) 0)) was
+    ∙ (ap (λ c. max (most_after (queued_with g) 0 [] rows) (cond c (length (queue_rows g (rows ++ r ∷ []))) 0)) (sym on)
     ∙ sym (most_push (queued_with g) 0 [] rows r)))
 
 -- ---- what the rows on a resource met
 -- a row that isn't on it
 pub counts_off : (g : ℕ) (rows : List Row) (r : Row) (n : ResourceCounts) → is_on g r.res ≡ false → AreResourceCounts rows g n → AreResourceCounts (rows ++ r ∷ []) g n
 counts_off g rows r n off was = record {
-  free = none_more_counted _ rows r n.free (ap (λ b. b && is_entry r.kind) off) was.free;
-  joined = none_more_counted _ rows r n.joined (ap (λ b. b && is_queue r.kind) off) was.joined;
-  at_once = none_more_counted _ rows r n.at_once (ap (λ b. b && (is_grant r.kind && is_in_tick r.tick (last_change g rows))) off) was.at_once;
-  later = none_more_counted _ rows r n.later (ap (λ b. b && (is_grant r.kind && not (is_in_tick r.tick (last_change g rows)))) off) was.later;
-  longest = most_without g rows r n.longest off was.longest;
+  free = counted _ rows r false n.free (ap (λ b. b && is_entry r.kind) off) (omega (arith, was.free));
+  joined = counted _ rows r false n.joined (ap (λ b. b && is_queue r.kind) off) (omega (arith, was.joined));
+  at_once = counted _ rows r false n.at_once (ap (λ b. b && (is_grant r.kind && is_in_tick r.tick (last_change g rows))) off) (omega (arith, was.at_once));
+  later = counted _ rows r false n.later (ap (λ b. b && (is_grant r.kind && not (is_in_tick r.tick (last_change g rows)))) off) (omega (arith, was.later));
+  longest = most_with g rows r false n.longest n.longest off (sym (max-zero n.longest)) was.longest;
 }
 
 -- ---- what the turns met

@@ -33,6 +33,7 @@ requests g e = is_on g e.row.res && is_request e.row.kind
 abbrev pub queue_rows : ℕ → List Row → List Numbered
 queue_rows g rows = drop (count_by (is_release_of g) rows) (filter (requests g) (numbered 0 rows))
 
+-- the row changes who holds a resource, and isn't a request
 abbrev pub is_change : Kind → Bool
 is_change k = same_kind k Lock || (same_kind k Unlock || is_release k)
 
@@ -97,6 +98,7 @@ head_level plan pre r = option_map (λ h. level plan h.task.0) (head plan r.core
 abbrev pub is_at_most : Option ℕ → ℕ → Bool
 is_at_most o most = option_map_or (λ n. nat_le n most) o false
 
+-- there is a number, and it is this one
 abbrev pub is_at : Option ℕ → ℕ → Bool
 is_at o at = option_map_or (λ n. n == at) o false
 

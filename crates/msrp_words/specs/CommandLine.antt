@@ -44,6 +44,7 @@ audit = with_rule (judge (codes "audit")) (flag (codes "parallel"))
 abbrev pub with_runs : App → App
 with_runs words = with_subcommand (with_subcommand words sim.top) run.top
 
+-- with the commands that judge traces
 abbrev pub with_judges : App → App
 with_judges words = with_subcommand (with_subcommand words audit.top) (judge (codes "report")).top
 

@@ -36,7 +36,7 @@ impl Auditor {
         answer(status, found, plan).map(|()| auditor)
     }
 
-    /// Judges the next row, after all rows so far. After a fault or a refusal the answer stays.
+    /// Judges the next row, after all rows so far. A fault or a refusal is repeated from then on.
     pub fn feed(&mut self, row: &Row) -> Result<(), Error> {
         let mut found = Found::default();
         // SAFETY: `&mut self` gives the handle to one call at a time.
@@ -44,7 +44,7 @@ impl Auditor {
         answer(status, found, &[])
     }
 
-    /// Judges the rows so far as a whole trace. Rows may be fed after it.
+    /// Judges the rows so far as a whole trace. More rows may be fed afterwards.
     pub fn end(&mut self) -> Result<(), Error> {
         let mut found = Found::default();
         // SAFETY: `&mut self` gives the handle to one call at a time.

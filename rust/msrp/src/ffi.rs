@@ -13,7 +13,7 @@ pub(crate) const ROOM: u32 = 6;
 pub(crate) const WAIT: u32 = 7;
 pub(crate) const DONE: u32 = 8;
 
-/// What a field has that a row doesn't have.
+/// The value of a field that a row doesn't have.
 pub(crate) const NONE: u32 = u32::MAX;
 
 /// `struct msrp_found`.
@@ -40,7 +40,7 @@ pub(crate) struct Numbers {
     pub(crate) ahead: u32,
 }
 
-/// What an event has in place of the number of a record.
+/// The number of an event whose record has none.
 pub(crate) const NO_SEQ: u64 = u64::MAX;
 
 /// `struct msrp_log_event`.

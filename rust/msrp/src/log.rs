@@ -6,7 +6,7 @@ use std::fmt::{self, Display, Formatter};
 /// What an event of a kernel's log reports. A resource is its number in the system, from 0.
 #[derive(Clone, Copy, Debug, PartialEq, Eq, Hash)]
 pub enum LogAction {
-    /// The log of the core begins.
+    /// The core's part of the log begins.
     Boot,
     /// A job is released, with its absolute deadline in ns.
     Release(Job, u64),
@@ -88,20 +88,20 @@ pub struct Tolerances {
 }
 
 impl Default for Tolerances {
-    /// No time at all, and 4,096 jobs, as the program `msrp_log` has it.
+    /// No tolerance of time, and 4,096 jobs: the defaults of `msrp_log`.
     fn default() -> Tolerances {
         Tolerances { operation: 0, slack: 0, skew: 0, backlog: 4096 }
     }
 }
 
-/// What a log lacks.
+/// What is missing in a log.
 #[derive(Clone, Copy, Debug, PartialEq, Eq, Hash)]
 pub enum Missing {
     /// The core isn't one of the system.
     Core,
-    /// The core's log has not begun.
+    /// The core has not booted.
     Start,
-    /// The core's log begins a second time.
+    /// The core boots a second time.
     Restart,
     /// Records of the core were lost.
     Records,
@@ -133,7 +133,7 @@ const MISSING: [Missing; 8] = [
 pub enum LogError {
     /// The scheduler violates the rule with this number: 1 for E1.
     Fault(u32),
-    /// The log lacks something.
+    /// Something is missing in the log.
     Incomplete(Missing),
     /// The system is refused at this record; the code is that of `enum msrp_system_refusal`.
     System {
@@ -212,7 +212,7 @@ impl LogAuditor {
         answer(status, found).map(|()| auditor)
     }
 
-    /// Takes the next event: what the events so far show first. After that the answer stays.
+    /// Takes the next event. The error is what the events so far show first; it then stays.
     pub fn feed(&mut self, event: &LogEvent) -> Result<(), LogError> {
         let mut found = Found::default();
         // SAFETY: `&mut self` gives the handle to one call at a time.
@@ -220,7 +220,7 @@ impl LogAuditor {
         answer(status, found)
     }
 
-    /// What the events so far show first. Events may be fed after it.
+    /// What the events so far show first. More events may be fed afterwards.
     pub fn end(&mut self) -> Result<(), LogError> {
         let mut found = Found::default();
         // SAFETY: `&mut self` gives the handle to one call at a time.

@@ -36,7 +36,7 @@ impl Plan {
         })
     }
 
-    /// The text of the plan. Read again, it is the same plan.
+    /// The text of the plan, which is read as the same plan.
     pub fn text(&self) -> &str {
         &self.text
     }

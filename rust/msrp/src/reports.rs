@@ -21,11 +21,11 @@ pub struct TaskReport {
     pub worst_response: u32,
     /// How long all jobs spun.
     pub spin: u32,
-    /// How long one request spun at most.
+    /// The longest spin of one request.
     pub worst_spin: u32,
     /// How long all jobs were blocked.
     pub blocked: u32,
-    /// How long one job was blocked at most.
+    /// The longest blocking of one job.
     pub worst_blocked: u32,
     /// A bound on `worst_spin`.
     pub spin_bound: u32,

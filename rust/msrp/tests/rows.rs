@@ -79,6 +79,51 @@ fn an_auditor_expects_the_rows_of_the_run() {
 }
 
 #[test]
+fn a_local_resource_is_locked_and_unlocked() {
+    let text = "msrp,1\ncores,1\nticks,3\nresource,h\nresource,g\ntask,a,0,9,9,0\nop,lock,g\nop,run,1\nop,unlock,g\n";
+    let mut auditor = Auditor::new(&Plan::new(text).expect("the plan is accepted")).expect("memory suffices");
+    for (tick, step) in (0..).zip([Step::Lock(A, 1), Step::Run(A), Step::Unlock(A, 1)]) {
+        assert_eq!(auditor.due(0), Ok(Some(row(tick, 0, step))));
+        assert_eq!(auditor.feed(&row(tick, 0, step)), Ok(()));
+    }
+    assert_eq!(auditor.end(), Ok(()));
+}
+
+#[test]
+fn a_step_has_its_job_and_its_resource() {
+    let steps = [
+        Step::Lock(B, 3),
+        Step::Unlock(B, 3),
+        Step::Take(B, 3),
+        Step::Queue(B, 3, Some(7)),
+        Step::Spin(B, 3),
+        Step::Grant(B, 3),
+        Step::Release(B, 3),
+    ];
+    assert!(steps.into_iter().all(|step| (step.job(), step.resource()) == (Some(B), Some(3))));
+    assert_eq!((Step::Run(B).job(), Step::Run(B).resource()), (Some(B), None));
+    assert_eq!((Step::Idle.job(), Step::Idle.resource()), (None, None));
+}
+
+#[test]
+fn rows_are_sorted_by_tick_resource_and_place() {
+    let rows = [
+        (row(3, 2, Step::Idle), None),
+        (row(3, 1, Step::Release(A, 0)), Some(0)),
+        (row(3, 0, Step::Spin(B, 0)), Some(1)),
+        (row(3, 4, Step::Queue(A, 0, Some(1))), Some(1)),
+        (row(3, 5, Step::Grant(B, 0)), Some(2)),
+        (row(3, 6, Step::Take(A, 0)), Some(2)),
+        (row(3, 3, Step::Release(B, 1)), Some(0)),
+        (row(4, 0, Step::Idle), None),
+    ];
+    let mut sorted = rows;
+    sorted.reverse();
+    sorted.sort_by_key(|(row, place)| row.rank(*place));
+    assert_eq!(sorted, rows);
+}
+
+#[test]
 fn an_auditor_keeps_its_first_fault() {
     let mut auditor = auditor();
     assert_eq!((auditor.feed(&rows()[0]), auditor.end()), (Ok(()), fault(2, 6)));

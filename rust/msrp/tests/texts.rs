@@ -31,6 +31,8 @@ fn a_plan_has_its_facts() {
     let spaced = HANDOVER.replace('\n', "\r\n\r\n").replace(",g", ",\"g\"");
     let plan = Plan::new(spaced).expect("the plan is accepted");
     assert_eq!((plan.text(), &plan), (HANDOVER, &handover()));
+    assert_eq!(plan.to_string(), HANDOVER);
+    assert_ne!(plan, Plan::new(HANDOVER.replace("20,8", "20,7")).expect("the plan is accepted"));
     assert_eq!((plan.cores(), plan.ticks()), (2, 6));
     assert_eq!((plan.tasks(), plan.resources()), (&["a".to_owned(), "b".to_owned()][..], &["g".to_owned()][..]));
     let listed = "msrp,2\ncores,1\nticks,9\nlisted,press,0,9\nrelease,4\nop,run,1\n";
@@ -96,6 +98,35 @@ fn a_refused_trace_says_where() {
 }
 
 #[test]
+fn an_error_says_what_it_is() {
+    let plan = handover();
+    let said = |head: &str, row: &str| audit(&plan, format!("{head}\n{row}\n")).unwrap_err().to_string();
+    let row = |row| said("msrp-trace,1,2,6", row);
+    assert_eq!(
+        said("msrp-trace,1,2,7", ""),
+        "trace: R1 at record 1, line 1: the first record isn't that of a trace of this plan"
+    );
+    let no_number = "tick or core isn't a number, or job or ahead is neither a number nor '-'";
+    assert_eq!(row("x,0,idle,-,-,-"), format!("trace: R3 at record 2, line 2: {no_number}"));
+    assert_eq!(row("0,0,wait,a,0,g"), "trace: R4 at record 2, line 2: unknown kind of row");
+    assert_eq!(row("0,0,take,z,0,g"), "trace: R5 at record 2, line 2: the plan has no such task or resource");
+    assert_eq!(row("0,0,idle,a,0,-"), "trace: R6 at record 2, line 2: the fields don't fit the kind of row");
+    assert_eq!(row("0,0,\"wait\",a,0,g"), "trace: R4 at record 2: unknown kind of row");
+    assert_eq!(row("0,0,take,a,0,g"), "row 2 violates rule A6");
+    assert_eq!(row("\n0,0,idle,-,-,-"), "row 1, line 3 violates rule A3");
+    let others = [Error::Usage, Error::Memory, Error::TooLong, Error::Unknown].map(|error| error.to_string());
+    assert_eq!(
+        others,
+        [
+            "wrong use: no such name, core, ticks or order, or a call out of turn",
+            "out of memory",
+            "a text has 16 MiB or more",
+            "the linked library has another version than this crate"
+        ]
+    );
+}
+
+#[test]
 fn only_a_legal_run_has_a_report() {
     let (plan, faulty) = (handover(), TRACE.replace("2,1,grant", "2,1,spin"));
     let tasks = report(&plan, TRACE).expect("the run is legal");
@@ -113,6 +144,10 @@ fn a_plan_has_levels_and_ceilings() {
     let local = "msrp,1\ncores,1\nticks,9\nresource,g\ntask,a,0,9,9,0\nop,run,1\n\
                  task,b,0,4,4,0\nop,lock,g\nop,run,1\nop,unlock,g\n";
     assert_eq!(check(&Plan::new(local).expect("the plan is accepted")), levels(vec![1, 2], vec![Some(2)], vec![2]));
+    for name in ["global", "global_tmp", "local", "a_global", "level"] {
+        let named = local.replace("resource,g", &format!("resource,{name}")).replace("lock,g", &format!("lock,{name}"));
+        assert_eq!(check(&Plan::new(named).expect("the plan is accepted")), levels(vec![1, 2], vec![Some(2)], vec![2]));
+    }
 }
 
 #[test]

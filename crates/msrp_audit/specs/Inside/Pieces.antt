@@ -21,6 +21,7 @@ parts plan = plan.ticks / ticks_a_piece + 1
 abbrev pub pieces_of : PlanModel → ℕ
 pieces_of plan = plan.cores + parts plan + length plan.resources
 
+-- the piece of a number: those of the cores are first, and those of the resources last
 abbrev pub piece_with : PlanModel → ℕ → Piece
 piece_with plan n =
     if nat_lt n plan.cores then Core (record { 0 = n })
@@ -32,6 +33,7 @@ piece_with plan n =
 abbrev pub part_size : PlanModel → ℕ
 part_size plan = plan.cores * ticks_a_piece
 
+-- the n-th row is in this part
 abbrev pub is_in_part : PlanModel → ℕ → ℕ → Bool
 is_in_part plan part n = nat_le (part * part_size plan) n && nat_lt n (part * part_size plan + part_size plan)
 
@@ -52,6 +54,7 @@ broken_on_core plan c pre r = if is_of c r && is_in_turn plan pre r then broken_
 abbrev pub broken_reply : PlanModel → ℕ → List Row → Row → Option Rule
 broken_reply plan g pre r = if is_global plan g && is_on g r.res then (if is_fifo_reply pre r then None else Some A5) else None
 
+-- the rule that a row violates, as the piece finds it
 abbrev pub broken_in : PlanModel → Piece → List Row → Row → Option Rule
 broken_in plan (Turns part) pre r = broken_turn plan part pre r
 broken_in plan (Core c) pre r = broken_on_core plan c.0 pre r
@@ -88,6 +91,7 @@ earlier_of (Some f) (Some g) = if nat_lt (fault_order g) (fault_order f) then So
 earlier_of (Some f) None = Some f
 earlier_of None o = o
 
+-- the earliest of some faults
 abbrev pub earliest_of : List (Option Fault) → Option Fault
 earliest_of faults = fold earlier_of None faults
 

@@ -1,7 +1,6 @@
 -- The rows of a trace's text, gathered before they are judged, and the finding on them.
 use Rattle.std.specs.Prelude.{◌≡◌, ◌⊎◌, ◌≤◌, if◌then◌else◌, ◌++◌}
-use Rattle.msrp_plan.specs.Common.{ℕ, Bool, true, false, ⊤, List, [], None, Some, length, option_map, Result}
-use Rattle.std.specs.declared.result.Result.TheVariants.{Ok, Err}
+use Rattle.msrp_plan.specs.Common.{ℕ, Bool, true, false, ⊤, List, [], None, Some, length, option_map, Result, Ok, Err}
 use Rattle.msrp_plan.specs.declared.faults.Fault.{Fault}
 use Rattle.msrp_plan.specs.declared.faults.Rule.{Rule}
 use Rattle.msrp_plan.specs.declared.faults.Rule.TheVariants.{A6}

@@ -14,6 +14,7 @@ bus = 0
 abbrev cal : ℕ
 cal = 1
 
+-- the system of the examples
 abbrev pub system : PlanModel
 system = record {
   cores = 2;
@@ -26,6 +27,7 @@ system = record {
       ∷ [];
 }
 
+-- an operation takes 1 ns, and the kernel reacts within 2 ns
 abbrev pub tolerances : Tolerances
 tolerances = record { operation = 1; slack = 2; skew = 0; backlog = 4 }
 
@@ -58,6 +60,7 @@ contended = resumed ++ acquire 22 0 lo bus ∷ release 23 1 far 123 ∷ switch 2
 abbrev handed_over : List Event
 handed_over = contended ++ poll 25 1 far bus ∷ freed 26 0 lo bus ∷ []
 
+-- far gets bus in its turn, and both cores become idle
 abbrev pub log : List Event
 log = handed_over ++ acquire 26 1 far bus ∷ end 27 0 lo ∷ freed 28 1 far bus ∷ end 29 1 far ∷ idle 29 1 ∷ stop 30 0 ∷ []
 
@@ -89,18 +92,23 @@ acts_on = held_up ++ unlock 15 0 lo cal ∷ request 18 0 lo bus ∷ []
 abbrev pub acquires_late : List Event
 acquires_late = handed_over ++ acquire 30 1 far bus ∷ []
 
+-- the system has three tasks, and this is a job of a fourth
 abbrev pub no_such_task : List Event
 no_such_task = held_up ++ release 14 0 (job 3 0) 99 ∷ []
 
+-- lo is a task of core 0
 abbrev pub on_another_core : List Event
 on_another_core = held_up ++ switch 14 1 lo ∷ []
 
+-- far isn't released yet
 abbrev pub before_its_release : List Event
 before_its_release = held_up ++ switch 14 1 far ∷ []
 
+-- hi has ended
 abbrev pub after_its_end : List Event
 after_its_end = resumed ++ switch 23 0 hi ∷ []
 
+-- hi is released already
 abbrev pub released_twice : List Event
 released_twice = held_up ++ release 14 0 hi 64 ∷ []
 
@@ -120,6 +128,7 @@ acts_unscheduled = held_up ++ lock 14 0 hi cal ∷ []
 abbrev pub steps_over_an_unlock : List Event
 steps_over_an_unlock = held_up ++ request 14 0 lo bus ∷ []
 
+-- lo still has a lock and an unlock left
 abbrev pub ends_early : List Event
 ends_early = held_up ++ end 14 0 lo ∷ []
 
@@ -135,26 +144,34 @@ polls_past_its_turn = handed_over ++ poll 27 1 far bus ∷ []
 abbrev pub from_an_unknown_core : List Event
 from_an_unknown_core = boot 0 2 ∷ []
 
+-- core 1 hasn't booted
 abbrev pub without_a_start : List Event
 without_a_start = boot 0 0 ∷ release 5 1 far 105 ∷ []
 
+-- core 0 boots a second time
 abbrev pub started_again : List Event
 started_again = held_up ++ boot 14 0 ∷ []
 
+-- the kernel itself says that records were lost
 abbrev pub with_lost_records : List Event
 with_lost_records = held_up ++ lost 14 0 ∷ []
 
+-- record 2 is missing
 abbrev pub with_a_gap : List Event
 with_a_gap = numbered 1 (boot 0 0) ∷ numbered 3 (release 10 0 lo 210) ∷ []
 
+-- the record before this one is later
 abbrev pub with_a_clock_back : List Event
 with_a_clock_back = held_up ++ unlock 11 0 lo cal ∷ []
 
+-- the release of job 1 is missing
 abbrev pub without_a_release : List Event
 without_a_release = held_up ++ release 14 0 (job 0 2) 164 ∷ []
 
+-- hi acquires cal, which it didn't request
 abbrev pub without_a_request : List Event
 without_a_request = preempted ++ acquire 17 0 hi cal ∷ []
 
+-- five jobs are released and unfinished, one more than may be
 abbrev pub with_too_many_jobs : List Event
 with_too_many_jobs = held_up ++ release 13 0 (job 1 1) 213 ∷ release 14 1 far 114 ∷ release 14 1 (job 2 1) 115 ∷ []

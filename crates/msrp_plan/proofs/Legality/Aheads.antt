@@ -1,4 +1,4 @@
--- No rule looks at an ahead of the rows before: what is legal stays legal where aheads are left out.
+-- No rule looks at an ahead of the rows before: what is legal stays legal without aheads.
 use Rattle.msrp_plan.specs.Common.{ℕ, Bool, true, false, not, nat_lt, List, [], map, length, Option, Some, None, drop, slice_get, filter, filter_map, PlanModel, units, jobs_on, is_row_of, is_waiting, is_started, is_queued, done, state_after, without_ahead, does_next, does_unit, does_unit_after, fifo, requester, is_release_of, replies, counts, EachAfter, IsLegal, IsRun, IsRunStart, is_in_turn, is_chosen, had_turn, same_choice, replies_on}
 use Rattle.msrp_plan.specs.declared.ids.JobId.{JobId}
 use Rattle.msrp_plan.specs.declared.ids.ResId.{ResId}

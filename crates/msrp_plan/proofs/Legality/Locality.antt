@@ -105,7 +105,7 @@ does_next_local plan c pre (Some j) r own at =
     let q : is_queued (log_of c pre) j ≡ is_queued pre j = ap (λ (s : JobState). s.queued) s in
     ap (λ n. does_unit_after plan j (is_queued (log_of c pre) j) n r) d ∙ ap (λ b. does_unit_after plan j b (done j pre) r) q
 
--- so the next row of a core after its log names the job that has the turn after all rows: the choice
+-- so a core's next row after its log names the job that has the turn after all rows: the choice
 pub chosen_local : (plan : PlanModel) (c : ℕ) (pre : List Row) (r : Row) → AreOwn plan pre → IsCoreTurn plan c (log_of c pre) r → is_chosen plan pre r ≡ true
 chosen_local plan c pre r own turn =
     ap (λ d. same_choice r.job (choice plan d r.tick pre)) turn.core

@@ -1,21 +1,13 @@
 -- A job isn't started while another holds a resource that it uses, although its deadline is
 -- earlier: lo holds r, whose ceiling is hi's level.
 use Rattle.std.specs.Prelude.{List, [], ◌∷◌, ◌++◌, codes}
-use Rattle.msrp_plan.specs.Plan.{PlanModel}
-use Rattle.msrp_plan.specs.Examples.Notation.{task, section, job, idle, run, runs, lock, unlock, changed}
-use Rattle.msrp_plan.specs.declared.ids.JobId.{JobId}
-use Rattle.msrp_plan.specs.declared.rows.Row.{Row}
+use Rattle.msrp_plan.specs.Examples.Notation.{task, section, job, idle, run, runs, lock, unlock, changed, PlanModel, JobId, Row, plan_with}
 
 abbrev pub plan : PlanModel
-plan = record {
-  cores = 1;
-  ticks = 9;
-  resources = codes "r" ∷ [];
-  tasks =
-      task (codes "lo") 0 20 10 0 (section 0 3)
-      ∷ task (codes "hi") 0 20 5 1 (section 0 1)
-      ∷ [];
-}
+plan = plan_with 1 9 (codes "r" ∷ []) (
+    task (codes "lo") 0 20 10 0 (section 0 3)
+    ∷ task (codes "hi") 0 20 5 1 (section 0 1)
+    ∷ [])
 
 abbrev lo : JobId
 lo = job 0 0

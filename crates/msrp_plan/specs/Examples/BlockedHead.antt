@@ -1,22 +1,14 @@
 -- A blocked head holds up later jobs: k holds r; j2, the first waiting job, uses r too and is
 -- blocked; j, released in tick 12, has a level above the ceiling, but j2 comes before it.
 use Rattle.std.specs.Prelude.{List, [], ◌∷◌, ◌++◌, codes}
-use Rattle.msrp_plan.specs.Plan.{PlanModel}
-use Rattle.msrp_plan.specs.Examples.Notation.{task, works, section, job, idle, run, runs, lock, unlock, changed}
-use Rattle.msrp_plan.specs.declared.ids.JobId.{JobId}
-use Rattle.msrp_plan.specs.declared.rows.Row.{Row}
+use Rattle.msrp_plan.specs.Examples.Notation.{task, works, section, job, idle, run, runs, lock, unlock, changed, PlanModel, JobId, Row, plan_with}
 
 abbrev pub plan : PlanModel
-plan = record {
-  cores = 1;
-  ticks = 19;
-  resources = codes "r" ∷ [];
-  tasks =
-      task (codes "k") 0 40 20 0 (section 0 12)
-      ∷ task (codes "j2") 0 40 15 1 (section 0 1)
-      ∷ task (codes "j") 0 40 5 12 (works 1)
-      ∷ [];
-}
+plan = plan_with 1 19 (codes "r" ∷ []) (
+    task (codes "k") 0 40 20 0 (section 0 12)
+    ∷ task (codes "j2") 0 40 15 1 (section 0 1)
+    ∷ task (codes "j") 0 40 5 12 (works 1)
+    ∷ [])
 
 abbrev k : JobId
 k = job 0 0

@@ -1,7 +1,6 @@
 -- Rows that aren't legal; each list exceeds the bound of one law by one.
 use Rattle.std.specs.Prelude.{List, [], ◌∷◌, ◌++◌}
-use Rattle.msrp_plan.specs.Examples.Notation.{job, run, runs, lock, unlock, take, queue, spin}
-use Rattle.msrp_plan.specs.declared.rows.Row.{Row}
+use Rattle.msrp_plan.specs.Examples.Notation.{job, run, runs, lock, unlock, take, queue, spin, Row}
 
 -- on two cores: while b waits, a takes the resource twice
 abbrev pub overtaken_twice : List Row

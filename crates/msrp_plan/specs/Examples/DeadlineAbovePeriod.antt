@@ -1,20 +1,12 @@
 -- A relative deadline above the period: a second job of the task is released while the first is
 -- unfinished, and waits for it.
 use Rattle.std.specs.Prelude.{List, [], ◌∷◌, ◌++◌, codes}
-use Rattle.msrp_plan.specs.Plan.{PlanModel}
-use Rattle.msrp_plan.specs.Examples.Notation.{task, works, job, run, runs, changed}
-use Rattle.msrp_plan.specs.declared.ids.JobId.{JobId}
-use Rattle.msrp_plan.specs.declared.rows.Row.{Row}
+use Rattle.msrp_plan.specs.Examples.Notation.{task, works, job, run, runs, changed, PlanModel, JobId, Row, plan_with}
 
 abbrev pub plan : PlanModel
-plan = record {
-  cores = 1;
-  ticks = 9;
-  resources = [];
-  tasks =
-      task (codes "a") 0 3 9 0 (works 4)
-      ∷ [];
-}
+plan = plan_with 1 9 [] (
+    task (codes "a") 0 3 9 0 (works 4)
+    ∷ [])
 
 abbrev first : JobId
 first = job 0 0

@@ -1,20 +1,12 @@
 -- Equal absolute deadlines: the job released first runs first, for any task numbers.
 use Rattle.std.specs.Prelude.{List, [], ◌∷◌, ◌++◌, codes}
-use Rattle.msrp_plan.specs.Plan.{PlanModel}
-use Rattle.msrp_plan.specs.Examples.Notation.{task, works, job, idle, run, runs, changed}
-use Rattle.msrp_plan.specs.declared.ids.JobId.{JobId}
-use Rattle.msrp_plan.specs.declared.rows.Row.{Row}
+use Rattle.msrp_plan.specs.Examples.Notation.{task, works, job, idle, run, runs, changed, PlanModel, JobId, Row, plan_with}
 
 abbrev pub plan : PlanModel
-plan = record {
-  cores = 1;
-  ticks = 8;
-  resources = [];
-  tasks =
-      task (codes "x") 0 20 10 0 (works 5)
-      ∷ task (codes "y") 0 20 8 2 (works 2)
-      ∷ [];
-}
+plan = plan_with 1 8 [] (
+    task (codes "x") 0 20 10 0 (works 5)
+    ∷ task (codes "y") 0 20 8 2 (works 2)
+    ∷ [])
 
 abbrev x : JobId
 x = job 0 0

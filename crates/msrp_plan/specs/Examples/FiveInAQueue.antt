@@ -1,22 +1,15 @@
 -- Five cores request one resource in one tick, so that four wait at once.
 use Rattle.std.specs.Prelude.{List, [], ◌∷◌, codes}
-use Rattle.msrp_plan.specs.Plan.{PlanModel}
-use Rattle.msrp_plan.specs.Examples.Notation.{task, section, job, idle, take, queue, spin, grant, release, changed}
-use Rattle.msrp_plan.specs.declared.rows.Row.{Row}
+use Rattle.msrp_plan.specs.Examples.Notation.{task, section, job, idle, take, queue, spin, grant, release, changed, PlanModel, Row, plan_with}
 
 abbrev pub plan : PlanModel
-plan = record {
-  cores = 5;
-  ticks = 6;
-  resources = codes "g" ∷ [];
-  tasks =
-      task (codes "a") 0 20 10 0 (section 0 0)
-      ∷ task (codes "b") 1 20 10 0 (section 0 0)
-      ∷ task (codes "c") 2 20 10 0 (section 0 0)
-      ∷ task (codes "d") 3 20 10 0 (section 0 0)
-      ∷ task (codes "e") 4 20 10 0 (section 0 0)
-      ∷ [];
-}
+plan = plan_with 5 6 (codes "g" ∷ []) (
+    task (codes "a") 0 20 10 0 (section 0 0)
+    ∷ task (codes "b") 1 20 10 0 (section 0 0)
+    ∷ task (codes "c") 2 20 10 0 (section 0 0)
+    ∷ task (codes "d") 3 20 10 0 (section 0 0)
+    ∷ task (codes "e") 4 20 10 0 (section 0 0)
+    ∷ [])
 
 -- each holds the resource for one tick
 abbrev pub rows : List Row

@@ -1,20 +1,12 @@
 -- Also legal: core 1 goes first in tick 2, polls before core 0 releases, and is granted later.
 use Rattle.std.specs.Prelude.{List, [], ◌∷◌, codes}
-use Rattle.msrp_plan.specs.Plan.{PlanModel}
-use Rattle.msrp_plan.specs.Examples.Notation.{task, section, job, idle, run, take, queue, spin, grant, release, changed}
-use Rattle.msrp_plan.specs.declared.ids.JobId.{JobId}
-use Rattle.msrp_plan.specs.declared.rows.Row.{Row}
+use Rattle.msrp_plan.specs.Examples.Notation.{task, section, job, idle, run, take, queue, spin, grant, release, changed, PlanModel, JobId, Row, plan_with}
 
 abbrev pub plan : PlanModel
-plan = record {
-  cores = 2;
-  ticks = 6;
-  resources = codes "g" ∷ [];
-  tasks =
-      task (codes "a") 0 20 8 0 (section 0 1)
-      ∷ task (codes "b") 1 20 8 0 (section 0 1)
-      ∷ [];
-}
+plan = plan_with 2 6 (codes "g" ∷ []) (
+    task (codes "a") 0 20 8 0 (section 0 1)
+    ∷ task (codes "b") 1 20 8 0 (section 0 1)
+    ∷ [])
 
 abbrev a : JobId
 a = job 0 0

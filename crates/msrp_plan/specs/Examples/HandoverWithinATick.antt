@@ -1,21 +1,13 @@
 -- Two cores want one resource. Core 0 has its turn first in each tick, so a resource that it
 -- releases in tick 2 is granted to core 1 in the same tick.
 use Rattle.std.specs.Prelude.{List, [], ◌∷◌, ◌++◌, codes}
-use Rattle.msrp_plan.specs.Plan.{PlanModel}
-use Rattle.msrp_plan.specs.Examples.Notation.{task, section, job, idle, run, take, queue, queue_behind, spin, grant, release, changed, without_last}
-use Rattle.msrp_plan.specs.declared.ids.JobId.{JobId}
-use Rattle.msrp_plan.specs.declared.rows.Row.{Row}
+use Rattle.msrp_plan.specs.Examples.Notation.{task, section, job, idle, run, take, queue, queue_behind, spin, grant, release, changed, without_last, PlanModel, JobId, Row, plan_with}
 
 abbrev pub plan : PlanModel
-plan = record {
-  cores = 2;
-  ticks = 6;
-  resources = codes "g" ∷ [];
-  tasks =
-      task (codes "a") 0 20 8 0 (section 0 1)
-      ∷ task (codes "b") 1 20 8 0 (section 0 1)
-      ∷ [];
-}
+plan = plan_with 2 6 (codes "g" ∷ []) (
+    task (codes "a") 0 20 8 0 (section 0 1)
+    ∷ task (codes "b") 1 20 8 0 (section 0 1)
+    ∷ [])
 
 abbrev a : JobId
 a = job 0 0

@@ -1,8 +1,6 @@
 -- A task's jobs run one after another, each from its release on; in between the core idles.
 use Rattle.std.specs.Prelude.{List, [], ◌∷◌, codes}
-use Rattle.msrp_plan.specs.Plan.{PlanModel}
-use Rattle.msrp_plan.specs.Examples.Notation.{task, works, job, idle, run, changed}
-use Rattle.msrp_plan.specs.declared.rows.Row.{Row}
+use Rattle.msrp_plan.specs.Examples.Notation.{task, works, job, idle, run, changed, PlanModel, Row}
 
 abbrev pub plan : PlanModel
 plan = record { cores = 1; ticks = 12; resources = []; tasks = task (codes "a") 0 3 3 0 (works 2) ∷ [] }

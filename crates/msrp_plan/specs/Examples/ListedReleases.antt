@@ -1,9 +1,6 @@
 -- A task that is released at the ticks of a list.
 use Rattle.std.specs.Prelude.{ℕ, List, [], ◌∷◌, codes}
-use Rattle.msrp_plan.specs.Plan.{PlanModel}
-use Rattle.msrp_plan.specs.Examples.Notation.{listed, works, job, idle, run, changed}
-use Rattle.msrp_plan.specs.declared.ids.JobId.{JobId}
-use Rattle.msrp_plan.specs.declared.rows.Row.{Row}
+use Rattle.msrp_plan.specs.Examples.Notation.{listed, works, job, idle, run, changed, PlanModel, JobId, Row}
 
 -- with these ticks
 abbrev pub released_at : List ℕ → PlanModel

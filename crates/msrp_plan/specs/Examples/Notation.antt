@@ -3,16 +3,21 @@ use Rattle.std.specs.Prelude.{ℕ, ◌-◌, List, [], ◌∷◌, ◌++◌, Optio
 use Rattle.std.specs.Prelude as list
 use Rattle.std.specs.List.{range_with_len}
 use Rattle.msrp_plan.specs.Plan.{TaskModel}
+pub use Rattle.msrp_plan.specs.Plan.{PlanModel}
 use Rattle.msrp_plan.specs.ReleaseTimes.{Every, Listed}
 use Rattle.msrp_plan.specs.declared.faults.Fault.{Fault}
 use Rattle.msrp_plan.specs.declared.faults.Rule.{Rule}
-use Rattle.msrp_plan.specs.declared.ids.JobId.{JobId}
+pub use Rattle.msrp_plan.specs.declared.ids.JobId.{JobId}
 use Rattle.msrp_plan.specs.declared.units.Op.{Op}
 use Rattle.msrp_plan.specs.declared.units.Op.TheVariants as unit
 use Rattle.msrp_plan.specs.declared.rows.Kind.TheVariants as kind
-use Rattle.msrp_plan.specs.declared.rows.Row.{Row}
+pub use Rattle.msrp_plan.specs.declared.rows.Row.{Row}
 
 -- ---- plans
+-- a plan: its numbers of cores and ticks, its resources and its tasks
+abbrev pub plan_with : ℕ → ℕ → List (List ℕ) → List TaskModel → PlanModel
+plan_with cores ticks resources tasks = record { cores = cores; ticks = ticks; resources = resources; tasks = tasks }
+
 -- a task: its name, core, period, relative deadline, offset and units
 abbrev pub task : List ℕ → ℕ → ℕ → ℕ → ℕ → List Op → TaskModel
 task name core period deadline offset units = record { name = name; core = core; times = Every period offset; deadline = deadline; units = units }
@@ -25,6 +30,7 @@ listed name core deadline ticks units = record { name = name; core = core; times
 abbrev pub works : ℕ → List Op
 works n = replicate n unit.Run
 
+-- a lock of a resource, and an unlock
 abbrev pub locks : ℕ → Op
 locks g = unit.Lock (record { 0 = g })
 

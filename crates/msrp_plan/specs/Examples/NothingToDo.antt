@@ -1,8 +1,6 @@
 -- A plan without a task: its core idles.
 use Rattle.std.specs.Prelude.{List, [], ◌∷◌}
-use Rattle.msrp_plan.specs.Plan.{PlanModel}
-use Rattle.msrp_plan.specs.Examples.Notation.{idle}
-use Rattle.msrp_plan.specs.declared.rows.Row.{Row}
+use Rattle.msrp_plan.specs.Examples.Notation.{idle, PlanModel, Row}
 
 abbrev pub plan : PlanModel
 plan = record {

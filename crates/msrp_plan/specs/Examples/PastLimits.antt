@@ -1,8 +1,7 @@
 -- Plans one past a limit.
 use Rattle.std.specs.Prelude.{[], ◌∷◌, ◌++◌, ◌+◌, ◌-◌, codes, map}
 use Rattle.std.specs.List.{range_with_len}
-use Rattle.msrp_plan.specs.Plan.{PlanModel}
-use Rattle.msrp_plan.specs.Examples.Notation.{task, works, locks, unlocks}
+use Rattle.msrp_plan.specs.Examples.Notation.{task, works, locks, unlocks, PlanModel}
 
 -- nine cores
 abbrev pub nine_cores : PlanModel

@@ -1,22 +1,14 @@
 -- A holder of a global resource isn't preempted: its core's ceiling is its highest level. The task
 -- other has no job before tick 7, but still makes g global.
 use Rattle.std.specs.Prelude.{List, [], ◌∷◌, codes}
-use Rattle.msrp_plan.specs.Plan.{PlanModel}
-use Rattle.msrp_plan.specs.Examples.Notation.{task, works, section, job, idle, run, lock, take, release, changed}
-use Rattle.msrp_plan.specs.declared.ids.JobId.{JobId}
-use Rattle.msrp_plan.specs.declared.rows.Row.{Row}
+use Rattle.msrp_plan.specs.Examples.Notation.{task, works, section, job, idle, run, lock, take, release, changed, PlanModel, JobId, Row, plan_with}
 
 abbrev pub plan : PlanModel
-plan = record {
-  cores = 2;
-  ticks = 7;
-  resources = codes "g" ∷ [];
-  tasks =
-      task (codes "lo") 0 20 10 0 (section 0 3)
-      ∷ task (codes "hi") 0 20 6 1 (works 1)
-      ∷ task (codes "other") 1 20 10 7 (section 0 0)
-      ∷ [];
-}
+plan = plan_with 2 7 (codes "g" ∷ []) (
+    task (codes "lo") 0 20 10 0 (section 0 3)
+    ∷ task (codes "hi") 0 20 6 1 (works 1)
+    ∷ task (codes "other") 1 20 10 7 (section 0 0)
+    ∷ [])
 
 abbrev lo : JobId
 lo = job 0 0

@@ -1,21 +1,13 @@
 -- A job queued for a global resource isn't preempted either: the ceiling rises at the request.
 use Rattle.std.specs.Prelude.{List, [], ◌∷◌, codes}
-use Rattle.msrp_plan.specs.Plan.{PlanModel}
-use Rattle.msrp_plan.specs.Examples.Notation.{task, works, section, job, idle, run, take, queue, spin, grant, release, changed}
-use Rattle.msrp_plan.specs.declared.ids.JobId.{JobId}
-use Rattle.msrp_plan.specs.declared.rows.Row.{Row}
+use Rattle.msrp_plan.specs.Examples.Notation.{task, works, section, job, idle, run, take, queue, spin, grant, release, changed, PlanModel, JobId, Row, plan_with}
 
 abbrev pub plan : PlanModel
-plan = record {
-  cores = 2;
-  ticks = 7;
-  resources = codes "g" ∷ [];
-  tasks =
-      task (codes "a") 0 20 10 0 (section 0 2)
-      ∷ task (codes "lo") 1 20 10 0 (section 0 1)
-      ∷ task (codes "hi") 1 20 5 1 (works 1)
-      ∷ [];
-}
+plan = plan_with 2 7 (codes "g" ∷ []) (
+    task (codes "a") 0 20 10 0 (section 0 2)
+    ∷ task (codes "lo") 1 20 10 0 (section 0 1)
+    ∷ task (codes "hi") 1 20 5 1 (works 1)
+    ∷ [])
 
 abbrev a : JobId
 a = job 0 0

@@ -1,21 +1,13 @@
 -- A released resource with a queue isn't free: a requests g again before b has polled, and joins
 -- the end of the queue. The cores alternate in going first.
 use Rattle.std.specs.Prelude.{List, [], ◌∷◌, ◌++◌, codes}
-use Rattle.msrp_plan.specs.Plan.{PlanModel}
-use Rattle.msrp_plan.specs.Examples.Notation.{task, section, job, idle, take, queue, spin, grant, release, changed}
-use Rattle.msrp_plan.specs.declared.ids.JobId.{JobId}
-use Rattle.msrp_plan.specs.declared.rows.Row.{Row}
+use Rattle.msrp_plan.specs.Examples.Notation.{task, section, job, idle, take, queue, spin, grant, release, changed, PlanModel, JobId, Row, plan_with}
 
 abbrev pub plan : PlanModel
-plan = record {
-  cores = 2;
-  ticks = 5;
-  resources = codes "g" ∷ [];
-  tasks =
-      task (codes "a") 0 20 10 0 (section 0 0 ++ section 0 0)
-      ∷ task (codes "b") 1 20 10 0 (section 0 0)
-      ∷ [];
-}
+plan = plan_with 2 5 (codes "g" ∷ []) (
+    task (codes "a") 0 20 10 0 (section 0 0 ++ section 0 0)
+    ∷ task (codes "b") 1 20 10 0 (section 0 0)
+    ∷ [])
 
 abbrev a : JobId
 a = job 0 0

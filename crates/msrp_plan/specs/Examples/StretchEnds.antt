@@ -1,20 +1,12 @@
 -- Where a stretch ends: hi is released in tick 1, and lo has three units of work.
 use Rattle.std.specs.Prelude.{List, [], ◌∷◌, codes}
-use Rattle.msrp_plan.specs.Plan.{PlanModel}
-use Rattle.msrp_plan.specs.Examples.Notation.{task, works, job, run, runs, queue}
-use Rattle.msrp_plan.specs.declared.ids.JobId.{JobId}
-use Rattle.msrp_plan.specs.declared.rows.Row.{Row}
+use Rattle.msrp_plan.specs.Examples.Notation.{task, works, job, run, runs, queue, PlanModel, JobId, Row, plan_with}
 
 abbrev pub plan : PlanModel
-plan = record {
-  cores = 1;
-  ticks = 9;
-  resources = [];
-  tasks =
-      task (codes "lo") 0 20 10 0 (works 3)
-      ∷ task (codes "hi") 0 20 5 1 (works 1)
-      ∷ [];
-}
+plan = plan_with 1 9 [] (
+    task (codes "lo") 0 20 10 0 (works 3)
+    ∷ task (codes "hi") 0 20 5 1 (works 1)
+    ∷ [])
 
 abbrev pub lo : JobId
 lo = job 0 0

@@ -1,21 +1,13 @@
 -- Three cores request one resource in one tick, core 2 first: it is granted in request order.
 use Rattle.std.specs.Prelude.{List, [], ◌∷◌, codes}
-use Rattle.msrp_plan.specs.Plan.{PlanModel}
-use Rattle.msrp_plan.specs.Examples.Notation.{task, section, job, idle, run, take, queue, spin, grant, release, changed}
-use Rattle.msrp_plan.specs.declared.ids.JobId.{JobId}
-use Rattle.msrp_plan.specs.declared.rows.Row.{Row}
+use Rattle.msrp_plan.specs.Examples.Notation.{task, section, job, idle, run, take, queue, spin, grant, release, changed, PlanModel, JobId, Row, plan_with}
 
 abbrev pub plan : PlanModel
-plan = record {
-  cores = 3;
-  ticks = 7;
-  resources = codes "g" ∷ [];
-  tasks =
-      task (codes "a") 0 20 10 0 (section 0 1)
-      ∷ task (codes "b") 1 20 10 0 (section 0 1)
-      ∷ task (codes "c") 2 20 10 0 (section 0 1)
-      ∷ [];
-}
+plan = plan_with 3 7 (codes "g" ∷ []) (
+    task (codes "a") 0 20 10 0 (section 0 1)
+    ∷ task (codes "b") 1 20 10 0 (section 0 1)
+    ∷ task (codes "c") 2 20 10 0 (section 0 1)
+    ∷ [])
 
 abbrev a : JobId
 a = job 0 0

@@ -1,8 +1,6 @@
 -- Two jobs are released at once: the earlier deadline runs first, though it is declared last.
 use Rattle.std.specs.Prelude.{List, [], ◌∷◌, codes}
-use Rattle.msrp_plan.specs.Plan.{PlanModel}
-use Rattle.msrp_plan.specs.Examples.Notation.{task, works, job, idle, run, changed}
-use Rattle.msrp_plan.specs.declared.rows.Row.{Row}
+use Rattle.msrp_plan.specs.Examples.Notation.{task, works, job, idle, run, changed, PlanModel, Row}
 
 abbrev pub plan : PlanModel
 plan = record { cores = 1; ticks = 4; resources = []; tasks = task (codes "x") 0 20 10 0 (works 2) ∷ task (codes "y") 0 20 5 0 (works 1) ∷ [] }

@@ -1,20 +1,12 @@
 -- Two global resources in one run, each with its own queue; a job requests its unit's resource.
 use Rattle.std.specs.Prelude.{List, [], ◌∷◌, ◌++◌, codes}
-use Rattle.msrp_plan.specs.Plan.{PlanModel}
-use Rattle.msrp_plan.specs.Examples.Notation.{task, section, job, idle, run, take, queue, release, changed}
-use Rattle.msrp_plan.specs.declared.ids.JobId.{JobId}
-use Rattle.msrp_plan.specs.declared.rows.Row.{Row}
+use Rattle.msrp_plan.specs.Examples.Notation.{task, section, job, idle, run, take, queue, release, changed, PlanModel, JobId, Row, plan_with}
 
 abbrev pub plan : PlanModel
-plan = record {
-  cores = 2;
-  ticks = 5;
-  resources = codes "g" ∷ codes "h" ∷ [];
-  tasks =
-      task (codes "a") 0 20 10 0 (section 0 1 ++ section 1 0)
-      ∷ task (codes "b") 1 20 10 0 (section 1 0 ++ section 0 0)
-      ∷ [];
-}
+plan = plan_with 2 5 (codes "g" ∷ codes "h" ∷ []) (
+    task (codes "a") 0 20 10 0 (section 0 1 ++ section 1 0)
+    ∷ task (codes "b") 1 20 10 0 (section 1 0 ++ section 0 0)
+    ∷ [])
 
 abbrev a : JobId
 a = job 0 0

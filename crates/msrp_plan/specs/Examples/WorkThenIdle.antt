@@ -1,19 +1,11 @@
 -- One task of two units on one core of three ticks: it works, and then the core idles.
 use Rattle.std.specs.Prelude.{List, [], ◌∷◌, codes}
-use Rattle.msrp_plan.specs.Plan.{PlanModel}
-use Rattle.msrp_plan.specs.Examples.Notation.{task, works, job, idle, run, changed}
-use Rattle.msrp_plan.specs.declared.ids.JobId.{JobId}
-use Rattle.msrp_plan.specs.declared.rows.Row.{Row}
+use Rattle.msrp_plan.specs.Examples.Notation.{task, works, job, idle, run, changed, PlanModel, JobId, Row, plan_with}
 
 abbrev pub plan : PlanModel
-plan = record {
-  cores = 1;
-  ticks = 3;
-  resources = [];
-  tasks =
-      task (codes "a") 0 3 3 0 (works 2)
-      ∷ [];
-}
+plan = plan_with 1 3 [] (
+    task (codes "a") 0 3 3 0 (works 2)
+    ∷ [])
 
 abbrev a : JobId
 a = job 0 0

@@ -1,8 +1,7 @@
 -- The handover within a tick with replies to wrong questions: the action is wrong, not the reply.
 use Rattle.std.specs.Prelude.{List}
-use Rattle.msrp_plan.specs.Examples.Notation.{job, take, spin, changed}
+use Rattle.msrp_plan.specs.Examples.Notation.{job, take, spin, changed, Row}
 use Rattle.msrp_plan.specs.Examples.HandoverWithinATick.{rows}
-use Rattle.msrp_plan.specs.declared.rows.Row.{Row}
 
 -- b, which is queued, requests the resource again
 abbrev pub taken_while_queued : List Row

@@ -5,6 +5,7 @@ use Rattle.msrp_plan.specs.Levels.{is_global}
 use Rattle.msrp_plan.specs.declared.units.Op.{Op}
 use Rattle.msrp_plan.specs.declared.units.Op.TheVariants.{Run, Lock, Unlock}
 
+-- the resource has a mark
 abbrev pub is_marked : List Bool → ℕ → Bool
 is_marked marks g = slice_index_or marks g false
 

@@ -17,6 +17,7 @@ times_view (Listed ticks) = model.Listed ticks.items
 abbrev pub named_view : List ℕ → Task → TaskModel
 named_view name task = record { name = name; core = task.core.0; times = times_view task.releases; deadline = task.deadline; units = task.units.items }
 
+-- what a clause sees of a task, stored with its name
 abbrev pub task_view : String Global × Task → TaskModel
 task_view e = named_view (string_bytes e.0) e.1
 

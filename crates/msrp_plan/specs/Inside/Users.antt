@@ -25,6 +25,7 @@ AreOn on Cores = (c : ℕ) × (d : ℕ) × (on c ≡ true) × (on d ≡ true) ×
 abbrev pub EachIsOn : (ℕ → ℕ → Bool) → List Users → Type 0
 EachIsOn on users = (g : ℕ) → g < most_resources → AreOn (on g) (slice_index_or users g Nobody)
 
+-- the resource is used on two cores or more
 abbrev pub are_on_two : Users → Bool
 are_on_two Cores = true
 are_on_two _ = false

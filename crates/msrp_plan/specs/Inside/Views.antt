@@ -15,6 +15,7 @@ use Rattle.msrp_plan.specs.declared.builder.PlanBuilder.TheInside as draft
 abbrev pub parts_view : Parts → PlanModel
 parts_view p = record { cores = p.cores; ticks = p.ticks; resources = map string_bytes p.resources.keys; tasks = map task_view p.tasks.entries }
 
+-- what a clause sees of a plan
 abbrev pub plan_view : plan.Inside → PlanModel
 plan_view p = parts_view p.parts
 
@@ -22,6 +23,7 @@ plan_view p = parts_view p.parts
 abbrev pub IsPlanView : plan.Inside → Type 0
 IsPlanView p = IsPlan (plan_view p) × AreGlobals (plan_view p) p.globals
 
+-- what a clause sees of a draft
 abbrev pub draft_view : draft.Inside → PlanModel
 draft_view b = parts_view b.parts
 
@@ -35,5 +37,6 @@ pub record IsGrowing (plan : PlanModel) (held : List ℕ) : Type 0 where
   pub whole : (t : ℕ) → t + 1 < length plan.tasks → IsWhole (task_at plan t)
   pub holds : held_after (newest_units plan) ≡ Some held
 
+-- a draft's fields say what the newest task holds
 abbrev pub IsBuilding : draft.Inside → Type 0
 IsBuilding b = IsGrowing (draft_view b) (numbers b.held.items)

@@ -18,6 +18,7 @@ a = job 0
 abbrev b : ℕ → JobId
 b = job 1
 
+-- its run, with the cores in rising order
 abbrev pub rows : List Row
 rows =
     take 0 0 (a 0) 0

@@ -44,6 +44,7 @@ counted_as tick kind c = record {
   longest_wait = max c.longest_wait (unwrap_or (wait_with kind c.wait) 0);
 }
 
+-- with one more row of the job
 abbrev pub counted : Row → JobCount → JobCount
 counted r c = counted_as r.tick r.kind c
 

@@ -37,6 +37,7 @@ pub record WaitsFor (plan : PlanModel) (rows : List Row) (released : Bool) (j k 
   pub since : IsSinceRelease plan rows j (Some k)
   pub rows_then : (count_of since.before k).rows ≡ n
 
+-- what is stored of the rows that block the job
 abbrev pub IsBlocking : PlanModel → List Row → Bool → JobId → Blocking → Type 0
 IsBlocking plan rows released j (Over n) = IsOver plan rows released j n
 IsBlocking plan rows released j (By k n) = WaitsFor plan rows released j k n
@@ -183,6 +184,7 @@ pub record IsNextOf (plan : PlanModel) (rows : List Row) (r : Row) (begun : ℕ)
   pub start : IsRunStart plan (rows ++ r ∷ [])
   pub tick : begun ≡ r.tick + 1
 
+-- the stored counts are those of some rows that this row follows
 abbrev pub Counts : PlanModel → Row → Tallies → Type 0
 Counts plan r t = (rows : List Row) × AreTallies plan rows (λ _. t.begun) t.tasks.items × IsNextOf plan rows r t.begun × AreActive plan rows t.active.items
 

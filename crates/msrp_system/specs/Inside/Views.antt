@@ -5,6 +5,7 @@ use Rattle.msrp_system.specs.Systems.{system_of, most_cores, most_tasks, most_re
 use Rattle.msrp_system.specs.declared.parts.Parts.TheInside as parts
 use Rattle.msrp_system.specs.declared.systems.System.TheInside as system
 
+-- what a clause sees of the parts of a system
 abbrev pub parts_view : parts.Inside → PlanModel
 parts_view p = system_of p.cores p.resources.items p.tasks.items
 
@@ -16,6 +17,7 @@ pub record IsSystem (system : PlanModel) : Type 0 where
   pub core : (t : ℕ) → t < length system.tasks → (task_at system t).core < system.cores
   pub steps : (t : ℕ) → t < length system.tasks → length (task_at system t).units ≤ most_steps
 
+-- what the parts of a system hold
 abbrev pub AreParts : parts.Inside → Type 0
 AreParts p = IsSystem (parts_view p)
 
@@ -30,5 +32,6 @@ pub record AreTables (s : system.Inside) : Type 0 where
   pub ceilings : s.ceilings.items ≡ map (local_ceiling s.parts) (range_with_len 0 (length s.parts.resources))
   pub globals : s.globals.items ≡ map (is_global s.parts) (range_with_len 0 (length s.parts.resources))
 
+-- what a clause sees of a system
 abbrev pub system_view : system.Inside → PlanModel
 system_view s = s.parts

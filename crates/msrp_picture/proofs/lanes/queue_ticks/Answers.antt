@@ -1,7 +1,7 @@
 -- Rows that are taken tick by tick.
 use Rattle.std.proofs.Common.{◌≡◌, ◌+◌, ◌-◌, ◌*◌, ◌≤◌, ◌++◌, ◌∙◌, take-append-drop}
-use Rattle.msrp_plan.proofs.Common.{ℕ, List, [], ap, sym, arith, take, drop, subst, drop-take, take-take, fifo}
-use Rattle.msrp_picture.proofs.Common.{HasTaken, PlanModel, Row, first_of, rows_in, slice_range}
+use Rattle.msrp_plan.proofs.Common.{ℕ, PlanModel, List, [], ap, sym, arith, take, drop, subst, drop-take, take-take, fifo}
+use Rattle.msrp_picture.proofs.Common.{HasTaken, Row, first_of, rows_in, slice_range}
 use Rattle.msrp_picture.proofs.Growing.{grows-each}
 use Rattle.msrp_picture.proofs.lanes.queue_ticks.Goals as goal
 

@@ -16,12 +16,12 @@ pub returns-in-Some-clause-repeated : goal.returns-in-Some-clause-repeated
 returns-in-Some-clause-repeated c = record {
   call = None;
   turned = record {
-    plan = c.repeat.ensures.plan;
-    core = c.repeat.ensures.core;
-    tick = c.in-Some.ensures.tick;
-    row = c.in-Some.ensures.row;
-    stands = c.in-Some.ensures.stands;
-    again = c.in-Some.ensures.again;
+    plan = c.in-Some.ensures.turn.plan;
+    core = c.in-Some.ensures.turn.core;
+    tick = c.in-Some.ensures.turn.tick;
+    row = c.in-Some.ensures.turn.row;
+    stands = c.in-Some.ensures.turn.stands;
+    again = c.in-Some.ensures.turn.again;
     call = λ res e global. absurd (none-some res (sym c.in-Some.ensures.res ∙ e));
     quiet = λ q. (refl, c.repeat.ensures.phase);
   };

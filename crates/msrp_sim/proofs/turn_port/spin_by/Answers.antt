@@ -10,4 +10,4 @@ returns-else-grants-clause-repeated c =
     let x = c.args.machine.now in
     let res = c.in_ok-res.res in
     let e = c.spin_on.ensures in
-    poll_made q x res c.spin_on.new.self c.spin_on.result (subst (λ o. IsSomeAnd o (IsPollOf q x res)) (sym e.known) c.in_ok-res.ensures.poll) (sym c.if-grants.false ∙ (c.grants.ensures ∙ ap (λ k. is_served q k res.0) c.core.ensures)) e.spin e.plan e.core e.phase e.tick e.row e.stands e.again
+    poll_made q x res c.spin_on.new.self c.spin_on.result (subst (λ o. IsSomeAnd o (IsPollOf q x res)) (sym e.known) c.in_ok-res.ensures.poll) (sym c.if-grants.false ∙ (c.grants.ensures ∙ ap (λ k. is_served q k res.0) c.core.ensures)) e.spin e.phase e.turn

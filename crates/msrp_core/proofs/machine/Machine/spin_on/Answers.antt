@@ -1,6 +1,6 @@
-use Rattle.std.proofs.Common.{◌+◌, ◌++◌, ◌∷◌, ◌≡◌, ◌∙◌}
-use Rattle.msrp_plan.proofs.Common.{[], Some, ap, sym, subst, none-some, same_Some, IsCoreTurn}
-use Rattle.msrp_core.proofs.Common.{CoreId, IsRefused, MachineModel, Polls, StandsAfter, machine_view, spin_again}
+use Rattle.std.proofs.Common.{◌+◌, ◌≡◌, ◌∙◌}
+use Rattle.msrp_plan.proofs.Common.{Some, ap, refl, sym, subst, none-some, same_Some}
+use Rattle.msrp_core.proofs.Common.{CoreId, Inside, IsMachineTurn, IsRefused, MachineModel, Polls, machine_view, spin_again}
 use Rattle.msrp_core.proofs.Repeating.{awaits_global, can_spin, is_spin, polls_on, repeats_only, row_spins, stands_spins, view_spins}
 use Rattle.msrp_core.proofs.machine.Machine.spin_on.Goals as goal
 
@@ -26,14 +26,6 @@ returns-clause-known c =
     subst (λ (x : MachineModel). Some c.spin.result ≡ x.spin) c.self.view_is
     (ap (λ r. Some r) (is_spin c.spin.result m.tick m.jobs.core p e.acts.row_tick e.acts.row_core e.kind e.acts.row_job e.res) ∙ sym (ap (spin_again m.tick m.jobs.core) c.in_ok-poll.was))
 
-pub returns-clause-again : goal.returns-clause-again
-returns-clause-again c =
-    let m = c.self.inside in
-    let p = c.in_ok-poll.poll in
-    let e = c.spin.ensures in
-    let polls = polls_on m c.self.invariant.jobs_fit p (c.self.invariant.spins p c.in_ok-poll.was) c.spin.result e.acts e.kind e.res in
-    repeats_only (record m { tick = m.tick + 1 }) c.spin.result (λ some. absurd (none-some p (sym (c.self.invariant.apart some) ∙ c.in_ok-poll.was))) (λ q h. subst (Polls m.jobs c.spin.result) (same_Some p q (sym c.in_ok-poll.was ∙ h)) polls) e.acts.row_core
-
 pub returns-clause-spin : goal.returns-clause-spin
 returns-clause-spin c =
     let p = c.in_ok-poll.poll in
@@ -42,15 +34,20 @@ returns-clause-spin c =
     subst (λ (m : MachineModel). IsRefused m c.spin.result) c.self.view_is
     (record { core = ap (λ (k : CoreId). k.0) e.acts.row_core; res = p.res; awaits = s.awaits; global = awaits_global c.self.inside c.self.invariant.jobs_fit p s; resource = e.res; kind = e.kind; ahead = e.ahead })
 
-pub returns-clause-row : goal.returns-clause-row
-returns-clause-row c = λ log.
-    let p = c.in_ok-poll.poll in
-    subst (λ (m : MachineModel). StandsAfter m log → IsCoreTurn m.plan m.core log c.spin.result) c.self.view_is
-    (row_spins c.self.inside c.self.invariant.jobs_fit p (c.self.invariant.spins p c.in_ok-poll.was) c.spin.result c.spin.ensures.acts log)
-
-pub returns-clause-stands : goal.returns-clause-stands
-returns-clause-stands c = λ log.
+pub returns-clause-turn : goal.returns-clause-turn
+returns-clause-turn c =
     let m = c.self.inside in
     let p = c.in_ok-poll.poll in
-    subst (λ (x : MachineModel). StandsAfter x log → StandsAfter (machine_view (record { tick = m.tick + 1; jobs = m.jobs; again = m.again; job = m.job; poll = m.poll })) (log ++ c.spin.result ∷ [])) c.self.view_is
-    (stands_spins m c.self.invariant.jobs_fit p (c.self.invariant.spins p c.in_ok-poll.was) c.spin.result c.spin.ensures.acts log)
+    let e = c.spin.ensures in
+    let s = c.self.invariant.spins p c.in_ok-poll.was in
+    let after : Inside = record m { tick = m.tick + 1 } in
+    let polls = polls_on m c.self.invariant.jobs_fit p s c.spin.result e.acts e.kind e.res in
+    subst (λ (old : MachineModel). IsMachineTurn old (machine_view after) c.spin.result) c.self.view_is
+    (record {
+      plan = refl;
+      core = refl;
+      tick = refl;
+      row = row_spins m c.self.invariant.jobs_fit p s c.spin.result e.acts;
+      stands = stands_spins m c.self.invariant.jobs_fit p s c.spin.result e.acts;
+      again = repeats_only after c.spin.result (λ some. absurd (none-some p (sym (c.self.invariant.apart some) ∙ c.in_ok-poll.was))) (λ q h. subst (Polls m.jobs c.spin.result) (same_Some p q (sym c.in_ok-poll.was ∙ h)) polls) e.acts.row_core;
+    })

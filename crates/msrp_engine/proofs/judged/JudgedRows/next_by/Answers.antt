@@ -37,7 +37,7 @@ pub returns-then-not-comes_behind-clause-read : goal.returns-then-not-comes_behi
 returns-then-not-comes_behind-clause-read g c = λ told rows known fed none e.
     let begins = subst (λ o. IfSome o (λ core. BeginsAt c.tick-tick.result core told)) c.in-Some.is (c.core_ahead.ensures.next told known) in
     let left = subst (λ r. told_left g.T.Read.remaining r ≡ Some told) (sym (c.expect.ensures.rows ∙ c.look.ensures.rows)) (c.core_ahead.ensures.kept told known) in
-    c.keep_expected.ensures.read told (c.comes_behind.ensures.kept (cc) told left) begins e
+    c.keep_expected.ensures.read told ((c.comes_behind.ensures.nothing (cc)).kept told left) begins e
 
 pub returns-clause-judged : goal.returns-clause-judged
 returns-clause-judged g c = λ rows fed none.
@@ -67,7 +67,7 @@ returns-then-not-is_due-clause-lines g c = λ text read. c.keep_read-then-not-is
 pub returns-then-not-comes_behind-clause-lines : goal.returns-then-not-comes_behind-clause-lines
 returns-then-not-comes_behind-clause-lines g c = λ text read.
     let at = subst (λ t. HasReadIn g.T.Read.remaining text t) (sym (c.expect.ensures.rows ∙ c.look.ensures.rows)) (c.core_ahead.ensures.lines text read) in
-    c.keep_expected.ensures.lines text (c.comes_behind.ensures.lines_still (cc) text at)
+    c.keep_expected.ensures.lines text ((c.comes_behind.ensures.nothing (cc)).lines text at)
 
 pub returns-clause-lines : goal.returns-clause-lines
 returns-clause-lines g c = λ text read.

@@ -1,9 +1,10 @@
 use Rattle.std.proofs.Common.{◌∷◌, ◌≡◌, ◌+◌, ◌++◌, ◌∙◌}
-use Rattle.msrp_plan.proofs.Common.{[], length-append, rules, List, ℕ, sym, ap, arith, length, decimal, refl}
+use Rattle.msrp_plan.proofs.Common.{[], length-append, rules, List, ℕ, sym, ap, subst, arith, length, decimal, refl}
 use Rattle.msrp_trace.proofs.MetRows.{met_row, row_begins, row_line}
 use Rattle.msrp_trace.proofs.ReadBack.{whole_line}
 use Rattle.msrp_trace.proofs.Standing.{line_stands}
 use Rattle.msrp_trace.proofs.Telling.{keeps_told}
+use Rattle.msrp_trace.specs.Readers.{IsAtTick}
 use Rattle.msrp_trace.specs.Reading.{told_after}
 use Rattle.msrp_trace.specs.Texts.{TextsModel, text_of_core}
 use Rattle.msrp_trace.proofs.Lining.{record_more}
@@ -26,9 +27,6 @@ returns-then-met-clause-taken g c = λ yes row told is h.
     let number : c.in-Some.after ≡ old.number + 1 = search rules in
     met_row old.version old.plan.now old.number c.in-Some.after row _ _ _ old.state told c.tasks-accepted.ensures.plan is.whole line (c.meets_behind-met.ensures.taken c.if-met.true _ text) number c.requires.state h
 
-pub returns-else-met-clause-kept : goal.returns-else-met-clause-kept
-returns-else-met-clause-kept g c = λ no told h. let old = c.args.self.now in keeps_told (told_after old.version old.plan.now old.number) old.state _ _ told c.requires.state (c.meets_behind-met.ensures.kept no) h
-
 pub returns-else-met-clause-finds : goal.returns-else-met-clause-finds
 returns-else-met-clause-finds g c = λ row is can.
     let old = c.args.self.now in
@@ -50,8 +48,16 @@ returns-then-met-clause-stands g c = λ row records is stands.
 pub returns-else-met-clause-stands : goal.returns-else-met-clause-stands
 returns-else-met-clause-stands g c = λ row records is stands. c.meets_behind-met.ensures.kept c.if-met.false _ stands
 
-pub returns-else-met-clause-still : goal.returns-else-met-clause-still
-returns-else-met-clause-still g c = λ no records stands. c.meets_behind-met.ensures.kept no _ stands
+pub returns-else-met-clause-nothing : goal.returns-else-met-clause-nothing
+returns-else-met-clause-nothing g c = λ no.
+    let old = c.args.self.now in
+    let e = c.meets_behind-met.ensures in
+    record {
+      here = subst (λ r. IsAtTick c.args.tick (record old { records = r })) (sym (e.same no)) c.requires;
+      kept = λ told h. keeps_told (told_after old.version old.plan.now old.number) old.state _ _ told c.requires.state (e.kept no) h;
+      still = λ records stands. e.kept no _ stands;
+      lines = λ bytes read. e.still no bytes _ read;
+    }
 
 pub returns-then-met-clause-lines : goal.returns-then-met-clause-lines
 returns-then-met-clause-lines g c = λ row bytes is read.
@@ -65,6 +71,3 @@ returns-then-met-clause-lines g c = λ row bytes is read.
 
 pub returns-else-met-clause-lines : goal.returns-else-met-clause-lines
 returns-else-met-clause-lines g c = λ row bytes is read. c.meets_behind-met.ensures.still c.if-met.false bytes _ read
-
-pub returns-else-met-clause-lines_still : goal.returns-else-met-clause-lines_still
-returns-else-met-clause-lines_still g c = λ no bytes read. c.meets_behind-met.ensures.still no bytes _ read

@@ -26,6 +26,6 @@ returns c = λ plan rows g ok start on number was.
         joined = one_more_counted _ rows r _ _ _ few (ap (λ b. b && is_queue kind) on) step.joined n.joined;
         at_once = one_more_counted _ rows r _ _ _ few (ap (λ b. b && (is_grant kind && is_in_tick r.tick (last_change g rows))) on ∙ ap (λ l. is_grant kind && is_in_tick r.tick l) (sym was.last)) step.at_once n.at_once;
         later = one_more_counted _ rows r _ _ _ few (ap (λ b. b && (is_grant kind && not (is_in_tick r.tick (last_change g rows)))) on ∙ ap (λ l. is_grant kind && not (is_in_tick r.tick l)) (sym was.last)) step.later n.later;
-        longest = most_with g rows r _ _ on (step.longest ∙ ap (max c.args.self.now.counts.longest) (long ∙ ap length queue)) n.longest;
+        longest = most_with g rows r true _ _ on (step.longest ∙ ap (max c.args.self.now.counts.longest) (long ∙ ap length queue)) n.longest;
       };
     }

@@ -1,0 +1,2 @@
+-- Worked examples of start states, in the middle of the log of two cores.
+pub mod StartStates
