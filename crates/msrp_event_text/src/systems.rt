@@ -292,7 +292,9 @@ fn nested_record(system: &System) -> Option<u64> {
         if let Some(place) = nested_lock(system, steps) {
             return Some(task_record.saturating_add(1).saturating_add(place as u64));
         }
-        task_record = task_record.saturating_add(1).saturating_add(steps.len() as u64);
+        task_record = task_record
+            .saturating_add(1)
+            .saturating_add(steps.len() as u64);
     }
     None
 }

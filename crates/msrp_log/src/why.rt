@@ -168,7 +168,11 @@ impl<'a> Why<'a> {
     fn write_overdue<W: Write>(&self, f: &mut Formatter<W>) -> fmt::Result {
         let core = self.core();
         let limit = self.auditor.core(core).map_or(0, |log| self.limit(log));
-        writeln!(f, "core {} switches by {limit} to the job it should run", core.0)
+        writeln!(
+            f,
+            "core {} switches by {limit} to the job it should run",
+            core.0
+        )
     }
 
     fn write_late<W: Write>(&self, f: &mut Formatter<W>) -> fmt::Result {
@@ -341,7 +345,11 @@ impl<'a> Why<'a> {
         let Event { core, number, .. } = self.shown.event;
         let last = self.auditor.core(core).and_then(|log| log.number);
         match (number, last) {
-            (Some(_), Some(last)) => writeln!(f, "records of core {} after its number {last}", core.0),
+            (Some(_), Some(last)) => writeln!(
+                f,
+                "records of core {} after its number {last}",
+                core.0
+            ),
             _ => writeln!(f, "records of core {}", core.0),
         }
     }
@@ -357,7 +365,10 @@ impl<'a> Why<'a> {
             (Missing::Records, _) => self.write_gap(f),
             (Missing::Clock, _) => {
                 let last = self.auditor.core(core).map_or(0, |log| log.time);
-                writeln!(f, "a time from {last} on, that of the last record of core {c}")
+                writeln!(
+                    f,
+                    "a time from {last} on, that of the last record of core {c}"
+                )
             }
             (Missing::Release, Some(job)) => self.write_release(f, job.task),
             (Missing::Request, _) => writeln!(f, "request by {}", self.job(job)),
