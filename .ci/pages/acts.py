@@ -151,7 +151,7 @@ def leads(browser, name, words, reader):
             wanted.append(reader.status())
     same(f"{name}: late jobs", found, wanted)
     lines = words.data["why"].rstrip().split("\n")
-    goals = [[(found.group(), goal) for found in re.finditer(r"\brow (\d+)|\btick (\d+)|\b([A-Za-z_]\w*),(\d+)(?=[,\s)]|$)", line) if (goal := target(words, reader, found))] for line in lines]
+    goals = [[(found.group(), goal) for found in re.finditer(r"\brow (\d+)|\btick (\d+)|\b([A-Za-z_]\w*),(\d+)(?=[,\s)]|$)", line) if (goal := target(words, reader, found, line))] for line in lines]
     same(f"{name}: reasons", browser.value(WHY), [[line, "missed" if line.startswith("not exercised") else "", [text for text, _ in links]] for line, links in zip(lines, goals)])
     found, wanted = browser.value(f"[...document.querySelectorAll('#why button')].map((link) => {{ link.click(); return {STATUS}; }})"), []
     for goal in [goal for links in goals for _, goal in links]:
@@ -160,8 +160,10 @@ def leads(browser, name, words, reader):
     same(f"{name}: links", found, wanted)
 
 
-def target(words, reader, found):
+def target(words, reader, found, line):
     row, tick, task, number = found.groups()
+    if task and re.search(r",\d+,$", line[:found.start()]):
+        return None  # behind a job's number there is a resource with its ahead
     if row and words.fault and int(row) == words.fault[0]:
         return reader.to_fault
     if row or tick:

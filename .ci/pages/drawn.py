@@ -29,6 +29,8 @@ DRAW = """(() => { setView(%s, %s); byId('lanes').style.maxHeight = '%s'; choose
   return { ops: window.ops.splice(0), width: box.width, height: box.height, scrolled: byId('lanes').scrollTop, wide: context.measureText('0').width, seen: canvas.dataset.blocks, map: byId('map').clientWidth,
     colours: Object.fromEntries('back text faint line lane works runs waits late life ceiling focus'.split(' ').map(colour)), window: ['left', 'right'].map((side) => Number.parseFloat(byId('window').style[side])),
     names: [...document.querySelectorAll('#names .lane')].map((one) => [Number.parseFloat(one.style.top), Number.parseFloat(one.style.height), [...one.children].map((part) => part.textContent).join('|')]) }; })()"""
+# Scrolls the lanes, and tells whether they can be.
+SCROLL = "(() => { const box = byId('lanes'), before = box.scrollTop; ops.length = 0; box.scrollTop = before ? 0 : 30; return box.scrollTop !== before; })()"
 EDGE, AXIS, LETTER = 6, 26, 6.7
 HUES = ["#eebc4d", "#89cbf0", "#4dbb9d", "#f4ec7b", "#4d9cc9", "#e28e4d", "#dba1c1"]
 LAYERS = {"core": [RUNS], "ceiling": [CEILING], "task": [LIFE, DOES, HOLDS, LATE], "queue": [FIRST], "head": []}
@@ -264,3 +266,7 @@ def pictures(browser, name, path, facts):
                 drawn(browser, name, words, start, end, [number, tick])
     for scrolled in (0, 70, 9999):
         drawn(browser, name, words, 0, words.ticks, [len(words.lanes) - 1, 0], "190px", scrolled)
+    browser.rest()
+    if browser.value(SCROLL):
+        browser.rest()
+        same(f"{name}: drawn anew where it is scrolled", browser.value("ops.length > 0"), True)

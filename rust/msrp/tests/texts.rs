@@ -65,6 +65,8 @@ fn a_simulation_has_the_order_that_is_asked_for() {
         trace.lines().nth(2).map(str::to_owned)
     };
     assert_eq!(second(Order::Rotating).as_deref(), Some("0,1,queue,b,0,g,1"));
+    let rotating = simulate(&plan, Order::Rotating, TextVersion::One).unwrap_or_default();
+    assert_eq!(rotating.lines().nth(3), Some("1,1,spin,b,0,g"), "tick 1 begins with core 1");
     assert_eq!(second(Order::Descending).as_deref(), Some("0,0,queue,a,0,g,1"));
     assert_eq!(second(Order::Listed(&[1, 0].repeat(6))), second(Order::Descending));
     assert_eq!(simulate(&plan, Order::Listed(&[0, 0]), TextVersion::One), Err(Error::Usage));
@@ -137,6 +139,27 @@ fn only_a_legal_run_has_a_report() {
     assert_eq!(report(&plan, &faulty), Err(Error::Fault { row: 6, rule: 5, line: Some(7) }));
 }
 
+/// Any two columns differ in some task.
+#[test]
+fn each_number_of_a_report_has_its_name() {
+    let plan = Plan::new(
+        "msrp,1\ncores,2\nticks,50\nresource,g\nresource,h\n\
+         task,far,0,9,9,0\nop,lock,g\nop,run,3\nop,unlock,g\n\
+         task,hi,1,9,5,2\nop,lock,g\nop,run,1\nop,unlock,g\nop,lock,h\nop,unlock,h\n\
+         task,lo,1,15,15,0\nop,lock,h\nop,run,3\nop,unlock,h\n",
+    )
+    .expect("the plan is accepted");
+    let trace = simulate(&plan, Order::Ascending, TextVersion::One).expect("the plan runs");
+    let tasks = report(&plan, trace).expect("the run is legal");
+    let jobs: Vec<_> =
+        tasks.iter().map(|it| (it.name.as_str(), it.core, it.jobs, it.finished, it.late, it.worst_response)).collect();
+    assert_eq!(jobs, [("far", 0, 6, 6, 0, 5), ("hi", 1, 6, 5, 5, 8), ("lo", 1, 4, 3, 0, 11)]);
+    let waits: Vec<_> = tasks.iter().map(|it| (it.spin, it.worst_spin, it.blocked, it.worst_blocked)).collect();
+    assert_eq!(waits, [(0, 0, 0, 0), (2, 1, 12, 3), (0, 0, 0, 0)]);
+    let bounds: Vec<_> = tasks.iter().map(|it| (it.spin_bound, it.blocked_bound)).collect();
+    assert_eq!(bounds, [(3, 0), (5, 4), (0, 0)]);
+}
+
 #[test]
 fn a_plan_has_levels_and_ceilings() {
     let levels = |levels, ceilings, tops| Ok(Levels { levels, ceilings, tops });
@@ -157,6 +180,8 @@ fn a_fault_is_explained_and_drawn() {
     assert!(why(&plan, TRACE).map_or(false, |why| why.starts_with("good\n")));
     assert!(view(&plan, &faulty, Style::Text, 0..0).map_or(false, |picture| picture.starts_with("fault,6,A5\n")));
     assert!(view(&plan, TRACE, Style::Svg, 2..4).map_or(false, |picture| picture.starts_with("<svg")));
+    let some = view(&plan, TRACE, Style::Text, 2..4).unwrap_or_default();
+    assert_eq!(some.lines().nth(1), Some("ticks 2 to 3 of 6"));
     assert_eq!(view(&plan, TRACE, Style::Text, 4..4), Err(Error::Usage));
 }
 
