@@ -224,7 +224,8 @@ def read_freertos(lines, options):
         ns, cpu, seq = time_of(row["time"], options.unit), int(row.get("core") or 0), row.get("seq")
         if seq and int(seq) > last.get(cpu, int(seq) - 1) + 1:
             yield Seen(None, cpu, "lost", num=str(int(seq) - last[cpu] - 1))
-        last[cpu] = int(seq or 0)
+        if seq:
+            last[cpu] = int(seq)
         thread = (row["task"],) if row["task"] else ()
         yield Seen(ns, cpu, HOOKS.get(row["event"], row["event"]), thread, row.get("object") or "")
 
