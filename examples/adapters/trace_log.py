@@ -33,6 +33,7 @@ UNITS = {"ns": 1, "us": 1000, "ms": 1_000_000, "s": 1_000_000_000}
 DAY = 86_400 * UNITS["s"]
 MARK = re.compile(r"msrp:([a-z]+)(?: ([\w.-]+))?(?: (\d+))?")
 OF_ALL = ("boot", "stop")
+FORGOTTEN = "<...>"  # what ftrace writes in place of a name that it has no longer
 IDLE = re.compile(r"0|swapper.*|<idle>|idle.*", re.I)
 
 
@@ -282,7 +283,7 @@ class Names:
 
     def task(self, thread):
         """The task that a thread has, by its name or its PID, or none. A record may have the PID alone."""
-        if len(thread) == 2 and all(thread):
+        if len(thread) == 2 and all(thread) and thread[0] != FORGOTTEN:
             self.name_of[thread[1]] = thread[0]
         names = [*thread, *(self.name_of[name] for name in thread if name in self.name_of)]
         return next((task for task in (self.threads.get(name, name) for name in names) if task in self.core), None)
@@ -344,7 +345,8 @@ def moved(one, offset):
 
 
 def timed(seen, offsets):
-    """With the offsets of the CPUs. A loss has the time of the next record of its CPU, or else of the last one."""
+    """With the offsets of the CPUs. A loss has the time of the next record of its CPU, or else of the last one, or else of
+    the last one of all."""
     lost, last = [], {}
     for one in seen:
         if one.ns is None:
@@ -355,7 +357,8 @@ def timed(seen, offsets):
         yield from (loss._replace(ns=one.ns) for loss in lost if loss.cpu == one.cpu)
         lost = [loss for loss in lost if loss.cpu != one.cpu]
         yield one
-    yield from (loss._replace(ns=last.get(loss.cpu, 0)) for loss in lost)
+    end = max(last.values(), default=0)
+    yield from (loss._replace(ns=last.get(loss.cpu, end)) for loss in lost)
 
 
 def of_log(seen):
