@@ -31,6 +31,15 @@ DRAW = """(() => { setView(%s, %s); byId('lanes').style.maxHeight = '%s'; choose
     names: [...document.querySelectorAll('#names .lane')].map((one) => [Number.parseFloat(one.style.top), Number.parseFloat(one.style.height), [...one.children].map((part) => part.textContent).join('|')]) }; })()"""
 # Scrolls the lanes, and tells whether they can be.
 SCROLL = "(() => { const box = byId('lanes'), before = box.scrollTop; ops.length = 0; box.scrollTop = before ? 0 : 30; return box.scrollTop !== before; })()"
+# The lines of the longest wait where the core of its job is folded, and where that of the job that was waited for first is.
+FOLDED = """(() => { showLongestWait(); return [state.selected.task, state.links[0].task].map((task) => {
+  const { core } = taskLane(task);
+  fold(core);
+  ops.length = 0;
+  draw();
+  fold(core);
+  return ops.filter(([, name]) => name === 'bezierCurveTo').length;
+}); })()"""
 EDGE, AXIS, LETTER = 6, 26, 6.7
 HUES = ["#eebc4d", "#89cbf0", "#4dbb9d", "#f4ec7b", "#4d9cc9", "#e28e4d", "#dba1c1"]
 LAYERS = {"core": [RUNS], "ceiling": [CEILING], "task": [LIFE, DOES, HOLDS, LATE], "queue": [FIRST], "head": []}
@@ -266,6 +275,11 @@ def pictures(browser, name, path, facts):
                 drawn(browser, name, words, start, end, [number, tick])
     for scrolled in (0, 70, 9999):
         drawn(browser, name, words, 0, words.ticks, [len(words.lanes) - 1, 0], "190px", scrolled)
+    wait = words.longest_wait()
+    if wait and words.links(wait[0]):
+        links, cores = words.links(wait[0]), [task["core"] for task in words.plan.tasks]
+        left = [link for link in links if cores[wait[0].task] != cores[links[0].task] != cores[link.task]]
+        same(f"{name}: lines of folded lanes", browser.value(FOLDED), [0, len(left)])
     browser.rest()
     if browser.value(SCROLL):
         browser.rest()
