@@ -124,15 +124,16 @@ static void times(void) {
     check(now_ns() >= until && now_ns() < until + INT64_C(5000000000), "a sleep");
 }
 
-/* What is said on standard error. */
-static void said(const char *due) {
+/* What is said on standard error: this, and more if it isn't the whole. */
+static void said(const char *due, bool is_whole) {
     static char text[2048];
     fflush(stderr);
     const ssize_t size = pread(fileno(stderr), text, sizeof text - 1, 0);
     text[size > 0 ? size : 0] = 0;
-    if (strcmp(text, due))
+    if (strncmp(text, due, strlen(due)) || is_whole == (text[strlen(due)] != 0)) {
         printf("%s", text);
-    check(!strcmp(text, due), due);
+        check(false, due);
+    }
     rewind(stderr);
     check(!ftruncate(fileno(stderr), 0), "standard error");
 }
@@ -150,21 +151,19 @@ static void reports(void) {
     workers[0] = (struct worker){.processor = 3, .is_fifo = true, .ticks = 7, .overruns = 2, .latest_start = 12900, .latest_end = 34999};
     verdict = MSRP_GOOD;
     report();
-    said(OF_CORE "audit: good\n");
+    said(OF_CORE "audit: good\n", true);
     workers[0].lost = 5;
     report();
-    said(OF_CORE "audit: incomplete, since the monitor was too slow for 5 rows\n");
+    said(OF_CORE "audit: incomplete, since the monitor was too slow for 5 rows\n", true);
     workers[0].lost = 0;
     workers[0].is_fifo = false;
     report_core(0, &workers[0]);
-    said("core 0 on processor 3 (SCHED_FIFO is not permitted): 7 ticks of 1000 us, latest start 12 us, latest end 34 us, 2 overruns\n");
+    said("core 0 on processor 3 (SCHED_FIFO is not permitted): 7 ticks of 1000 us, latest start 12 us, latest end 34 us, 2 overruns\n", true);
     workers[0].is_fifo = true;
     check(msrp_auditor_new((const uint8_t *)PLAN, sizeof PLAN - 1, &auditor, &found) == MSRP_GOOD, "an auditor");
     verdict = msrp_auditor_feed(&auditor, &idle, &found);
     report();
-    said(OF_CORE "audit: row 1 violates A3\nfault,1,A3\nrow 1: 0,0,idle,-,-,-,-\n"
-                 "rule A3: the core runs the job that it should run; the core should run job 0 of a, the head of the ready queue\n"
-                 "expected: 0,0,run,a,0,-,-\n");
+    said(OF_CORE "audit: row 1 violates A3\nfault,1,A3\nrow 1: 0,0,idle,-,-,-,-\nrule A3: ", false);
 }
 
 int main(void) {
