@@ -42,6 +42,7 @@ static void functions(void) {
 }
 
 static void names(void) {
+    check(MOST_CORES == 8 && MOST_TASKS == 64 && NAME == 16, "the limits of a plan");
     bind_tasks("msrp,2\ncores,2\nticks,9\nresource,task\nlisted,radio,1,5\nrelease,3\nop,run,1\ntask,gyro,0,9,9,0\nop,run,1\n");
     check(work_of[0] == radio && work_of[1] == gyro, "the functions of a plan");
     check(function_of("attitude") == attitude && function_of("position") == position && function_of("log") == record, "names");
