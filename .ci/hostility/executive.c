@@ -41,6 +41,23 @@ static void functions(void) {
     check(calls == 5 && !memcmp(told, due, sizeof due), "what a function is told");
 }
 
+/* Two jobs of gyro on one core: each unit of work calls its function, and the monitor gets each row. */
+static void whole_run(void) {
+    struct msrp_run run = {NULL};
+    char path[] = "/tmp/executive-XXXXXX";
+    const int made = mkstemp(path);
+    FILE *file = made < 0 ? NULL : fdopen(made, "w");
+    check(file && fputs("msrp,1\ncores,1\nticks,4\ntask,gyro,0,2,2,0\nop,run,1\n", file) >= 0 && !fclose(file), "a plan");
+    load(&run, path);
+    remove(path);
+    execute(&run);
+    check(rate == 3 - 8, "the function of the last job");
+    check(cores == 1 && workers[0].ticks == 4 && !workers[0].lost, "the ticks of a run");
+    check(verdict == MSRP_GOOD && msrp_auditor_end(&auditor, &found) == MSRP_GOOD, "the audit of a run");
+    msrp_auditor_free(&auditor);
+    msrp_run_free(&run);
+}
+
 static void names(void) {
     check(MOST_CORES == 8 && MOST_TASKS == 64 && NAME == 16, "the limits of a plan");
     bind_tasks("msrp,2\ncores,2\nticks,9\nresource,task\nlisted,radio,1,5\nrelease,3\nop,run,1\ntask,gyro,0,9,9,0\nop,run,1\n");
@@ -51,6 +68,7 @@ static void names(void) {
 /* The functions of flight.csv: the state is touched only while it is held. */
 static void flight(void) {
     gyro(7, NO);
+    state.angle = state.position = estimate = 0;
     attitude(0, NO);
     check(rate == 21 % 17 - 8 && state.angle == 0, "the rate");
     attitude(0, STATE);
@@ -149,6 +167,7 @@ static void reports(void) {
     check(made >= 0 && freopen(path, "w+", stderr), "standard error");
     remove(path);
     cores = 1;
+    auditor = (struct msrp_auditor){NULL};
     workers[0] = (struct worker){.processor = 3, .is_fifo = true, .ticks = 7, .overruns = 2, .latest_start = 12900, .latest_end = 34999};
     verdict = MSRP_GOOD;
     report();
@@ -168,6 +187,7 @@ static void reports(void) {
 }
 
 int main(void) {
+    whole_run();
     functions();
     names();
     flight();
