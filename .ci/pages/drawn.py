@@ -273,6 +273,8 @@ def pictures(browser, name, path, facts):
             blocks = [block for look in LAYERS[words.lanes[number].what] for one in words.lanes[number].numbers for block in words.blocks[look, one]]
             for tick in sorted({block.first for block in blocks[:2] + blocks[-1:]} | {words.ticks - 1}):
                 drawn(browser, name, words, start, end, [number, tick])
+    if words.fault:
+        drawn(browser, name, words, 0, words.ticks, [words.fault_lane(), words.fault_tick])
     for scrolled in (0, 70, 9999):
         drawn(browser, name, words, 0, words.ticks, [len(words.lanes) - 1, 0], "190px", scrolled)
     wait = words.longest_wait()
