@@ -1,5 +1,6 @@
-/* Tries the parts of examples/embedding/executive.c that its trace doesn't show: what a function is told, the ring, the
- * order of rows for the monitor, the functions of tasks, the processors, and what is said of each core and of the audit. */
+/* Tries the parts of examples/embedding/executive.c that its trace doesn't show: what a function is
+ * told, the ring, the order of rows for the monitor, the functions of tasks, the processors, and
+ * what is said of each core and of the audit. */
 #define main run_executive
 #include "../../examples/embedding/executive.c"
 #undef main
@@ -47,7 +48,8 @@ static void whole_run(void) {
     char path[] = "/tmp/executive-XXXXXX";
     const int made = mkstemp(path);
     FILE *file = made < 0 ? NULL : fdopen(made, "w");
-    check(file && fputs("msrp,1\ncores,1\nticks,4\ntask,gyro,0,2,2,0\nop,run,1\n", file) >= 0 && !fclose(file), "a plan");
+    check(file && fputs("msrp,1\ncores,1\nticks,4\ntask,gyro,0,2,2,0\nop,run,1\n", file) >= 0, "a plan");
+    check(!fclose(file), "a file");
     load(&run, path);
     remove(path);
     execute(&run);
@@ -60,9 +62,11 @@ static void whole_run(void) {
 
 static void names(void) {
     check(MOST_CORES == 8 && MOST_TASKS == 64 && NAME == 16, "the limits of a plan");
-    bind_tasks("msrp,2\ncores,2\nticks,9\nresource,task\nlisted,radio,1,5\nrelease,3\nop,run,1\ntask,gyro,0,9,9,0\nop,run,1\n");
+    bind_tasks("msrp,2\ncores,2\nticks,9\nresource,task\n"
+               "listed,radio,1,5\nrelease,3\nop,run,1\ntask,gyro,0,9,9,0\nop,run,1\n");
     check(work_of[0] == radio && work_of[1] == gyro, "the functions of a plan");
-    check(function_of("attitude") == attitude && function_of("position") == position && function_of("log") == record, "names");
+    check(function_of("attitude") == attitude && function_of("position") == position, "names");
+    check(function_of("log") == record, "a name that differs from its function's");
 }
 
 /* The functions of flight.csv: the state is touched only while it is held. */
@@ -133,7 +137,8 @@ static void processors(void) {
     for (int processor = 0; processor < CPU_SETSIZE; processor++)
         if (CPU_ISSET(processor, &allowed))
             check(processor_of(count++) == processor, "each processor in turn");
-    check(processor_of(count) == processor_of(0) && processor_of(2 * count - 1) == processor_of(count - 1), "and again");
+    check(processor_of(count) == processor_of(0), "and again");
+    check(processor_of(2 * count - 1) == processor_of(count - 1), "and again");
 }
 
 static void times(void) {
@@ -157,7 +162,8 @@ static void said(const char *due, bool is_whole) {
     check(!ftruncate(fileno(stderr), 0), "standard error");
 }
 
-#define OF_CORE "core 0 on processor 3 (SCHED_FIFO): 7 ticks of 1000 us, latest start 12 us, latest end 34 us, 2 overruns\n"
+#define COUNTS "7 ticks of 1000 us, latest start 12 us, latest end 34 us, 2 overruns\n"
+#define OF_CORE "core 0 on processor 3 (SCHED_FIFO): " COUNTS
 
 static void reports(void) {
     static const char PLAN[] = "msrp,1\ncores,1\nticks,2\ntask,a,0,2,2,0\nop,run,1\n";
@@ -168,7 +174,9 @@ static void reports(void) {
     remove(path);
     cores = 1;
     auditor = (struct msrp_auditor){NULL};
-    workers[0] = (struct worker){.processor = 3, .is_fifo = true, .ticks = 7, .overruns = 2, .latest_start = 12900, .latest_end = 34999};
+    workers[0] = (struct worker){.processor = 3, .is_fifo = true, .ticks = 7, .overruns = 2};
+    workers[0].latest_start = 12900;
+    workers[0].latest_end = 34999;
     verdict = MSRP_GOOD;
     report();
     said(OF_CORE "audit: good\n", true);
@@ -178,7 +186,7 @@ static void reports(void) {
     workers[0].lost = 0;
     workers[0].is_fifo = false;
     report_core(0, &workers[0]);
-    said("core 0 on processor 3 (SCHED_FIFO is not permitted): 7 ticks of 1000 us, latest start 12 us, latest end 34 us, 2 overruns\n", true);
+    said("core 0 on processor 3 (SCHED_FIFO is not permitted): " COUNTS, true);
     workers[0].is_fifo = true;
     check(msrp_auditor_new((const uint8_t *)PLAN, sizeof PLAN - 1, &auditor, &found) == MSRP_GOOD, "an auditor");
     verdict = msrp_auditor_feed(&auditor, &idle, &found);

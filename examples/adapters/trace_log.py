@@ -345,8 +345,8 @@ def moved(one, offset):
 
 
 def timed(seen, offsets):
-    """With the offsets of the CPUs. A loss has the time of the next record of its CPU, or else of the last one, or else of
-    the last one of all."""
+    """With the offsets of the CPUs. A loss has the time of the next record of its CPU, else of the last one, else of the
+    last one of all CPUs."""
     lost, last = [], {}
     for one in seen:
         if one.ns is None:
