@@ -69,6 +69,8 @@ REASONS = [
      ["expected: q,0 acquires b by 61", "holder of b: none, since 31", "queue of b, first to last:", "  q,0"]),
     (12, f"{P_HOLDS_B} 28,1,acquire,q,0,b,,46 29,2,stop,,,,,16", "fault,23,E10", 23, "E10",
      ["expected: p,0 gives up b before", "holder of b: p,0", "queue of b, first to last:", "  q,0"]),
+    (12, f"18,2,release,t,1,,218,16 {P_HOLDS_B} 28,1,acquire,q,0,b,,46 29,2,stop,,,,,17", "fault,24,E10", 24, "E10",
+     ["expected: p,0 gives up b before", "holder of b: p,0", "queue of b, first to last:", "  q,0"]),
     (12, f"{P_HOLDS_B} 28,0,freed,p,0,b,, 29,1,poll,q,0,b,,46 30,2,stop,,,,,16", "fault,24,E10", 24, "E10",
      ["expected: acquire of b by q,0", "holder of b: none, since 28", "queue of b, first to last:", "  q,0"]),
     (22, "28,1,switch,u,0,,,45 29,2,stop,,,,,21", "fault,23,E4", 23, "E4", ["expected: core 2"]),
