@@ -69,6 +69,8 @@ REASONS = [
      ["expected: q,0 acquires b by 61", "holder of b: none, since 31", "queue of b, first to last:", "  q,0"]),
     (12, f"{P_HOLDS_B} 28,1,acquire,q,0,b,,46 29,2,stop,,,,,16", "fault,23,E10", 23, "E10",
      ["expected: p,0 gives up b before", "holder of b: p,0", "queue of b, first to last:", "  q,0"]),
+    (12, f"18,2,release,t,1,,218,16 {P_HOLDS_B} 28,1,acquire,q,0,b,,46 29,2,stop,,,,,17", "fault,24,E10", 24, "E10",
+     ["expected: p,0 gives up b before", "holder of b: p,0", "queue of b, first to last:", "  q,0"]),
     (12, f"{P_HOLDS_B} 28,0,freed,p,0,b,, 29,1,poll,q,0,b,,46 30,2,stop,,,,,16", "fault,24,E10", 24, "E10",
      ["expected: acquire of b by q,0", "holder of b: none, since 28", "queue of b, first to last:", "  q,0"]),
     (22, "28,1,switch,u,0,,,45 29,2,stop,,,,,21", "fault,23,E4", 23, "E4", ["expected: core 2"]),
@@ -91,6 +93,9 @@ REASONS = [
     (22, "28,2,end,u,0,,,21 29,0,stop,,,,, 30,2,stop,,,,,23 31,1,stop,,,,,49", "incomplete,26,records", 23, "E9",
      ["expected: acquire of c by u,0", *U_WAITS, "note: record 26 shows that others are missing, so this fault is not certain"]),
 ]
+# The state after FREED: c is free since 30, and u awaits it; b is free since 31, and q awaits it.
+BOTH_FREE = ["msrp-log-state,1,3", ",,next,q,,,1,", ",,next,s,,,2,", ",,next,t,,,2,", ",,next,u,,,1,", ",,waiting,u,0,c,518,1", ",,ready,t,1,,226,0", ",,ready,s,1,,127,0",
+             ",,waiting,q,0,b,321,2", "21,0,core,,,,,", "31,1,core,q,0,31,,46", "27,2,core,u,0,25,,20", "31,,free,,,b,,", "30,,free,,,c,,"]
 # A record whose bytes aren't all printable, and how it is shown.
 UNPRINTABLE = '28,2,release,"a b\tc\x7f,d",0,,9,21', "record 23: 28,2,release,a b?c?,d,0,,9,21"
 # Options, and by when q must acquire b, which is free since 31.
